@@ -1,0 +1,5 @@
+pub mod Append
+pub mod Bounds
+pub mod Join
+pub mod Machine
+pub mod Meaning

@@ -1,0 +1,11 @@
+pub mod Bits
+pub mod Bridge
+pub mod ByDepth
+pub mod Children
+pub mod Laws
+pub mod Lines
+pub mod Number
+pub mod Parse
+pub mod Signed
+pub mod SignedUses
+pub mod Walks

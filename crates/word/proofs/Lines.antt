@@ -1,0 +1,222 @@
+-- Lines of nodes by the running depth alone: who is on whose line, and the nearest node of two lines. Assumes nothing.
+use mathlib.Core.Path.{_≡_, refl, sym, ap, ap₂, subst, _∙_}
+use mathlib.Core.Logic.{_≢_, _⊎_, inl, inr}
+use mathlib.Core.Bool.{Bool, true, false, cond}
+use mathlib.Core.List.{List, [], _∷_}
+use mathlib.Core.Option.{Option, none, some, Option·none-ne-some}
+use Prim.Native.Nat.{ℕ, zero, suc, _+_, _-_, _≤_, _<_}
+use native.Mathlib.Omega.{arith}
+use native.Mathlib.Decide.{decLe, decLt, ℕ-discrete}
+use lib.Dec.{T, eqb, eqb→eq, eqb-refl}
+use lib.ListN.{length, drop, getElem?}
+use Rattle.word.specs.Nodes.{on}
+use Rattle.word.specs.Questions.{shared}
+use Rattle.word.proofs.Bridge.{rank, Span, Ups, Line, eq}
+
+-- ---- tests
+
+pub is-true : (b : Bool) → T b → b ≡ true
+is-true true t = refl
+is-true false t = absurd t
+
+pub true-is : (b : Bool) → b ≡ true → T b
+true-is true e = tt
+true-is false e = let z : _≡_ {A = ℕ} 0 1 = cc in absurd (omega arith)
+
+pub eqb-same : (a : ℕ) → eqb a a ≡ true
+eqb-same a = is-true (eqb a a) (eqb-refl a)
+
+pub eqb-eq : (a b : ℕ) → eqb a b ≡ true → a ≡ b
+eqb-eq a b e = eqb→eq a b (true-is (eqb a b) e)
+
+pub cond-all : {A : Type 0} (P : A → Type 0) (b : Bool) {x y : A} → P x → P y → P (cond b x y)
+cond-all P true p q = p
+cond-all P false p q = q
+
+pub on-here : (p a : ℕ) (ps : List ℕ) → p ≡ a → on (p ∷ ps) a ≡ true
+on-here p a ps e = ap (λ b. cond b true (on ps a)) (ap (λ n. eqb n a) e ∙ eqb-same a)
+
+pub on-up : (p a : ℕ) (ps : List ℕ) → on ps a ≡ true → on (p ∷ ps) a ≡ true
+on-up p a ps e = cond-all (λ b. b ≡ true) (eqb p a) refl e
+
+pub on-cases : (p a : ℕ) (ps : List ℕ) → on (p ∷ ps) a ≡ true → (p ≡ a) ⊎ (on ps a ≡ true)
+on-cases p a ps o = go (eqb p a) refl o
+  where
+    go : (b : Bool) → eqb p a ≡ b → cond b true (on ps a) ≡ true → (p ≡ a) ⊎ (on ps a ≡ true)
+    go true e o = inl (eqb-eq p a e)
+    go false e o = inr o
+
+-- ---- the running depth of a balanced word, and what the walks look for
+
+abbrev pub height : List Bool → ℕ → ℕ
+height w p = rank true w p - rank false w p
+
+-- forward by 0: the first q > p with the depth of p
+pub record Next (w : List Bool) (p q : ℕ) : Type 0 where
+  pub past : p < q
+  pub ends : q ≤ length w
+  pub back : height w q ≡ height w p
+  pub least : (j : ℕ) → p < j → j < q → height w j ≢ height w p
+
+-- backward by -b: the last q < p that is b less deep
+pub record Last (w : List Bool) (p b q : ℕ) : Type 0 where
+  pub past : q < p
+  pub less : height w q + b ≡ height w p
+  pub most : (j : ℕ) → q < j → j < p → height w j + b ≢ height w p
+
+-- the least depth of the boundaries after a up to b
+pub record Least (w : List Bool) (a b m : ℕ) : Type 0 where
+  pub low : (j : ℕ) → a < j → j ≤ b → m ≤ height w j
+  pub reached : (j : ℕ) × (a < j) × (j ≤ b) × (height w j ≡ m)
+
+pub next-unique : (w : List Bool) (p q r : ℕ) → Next w p q → Next w p r → q ≡ r
+next-unique w p q r s t = go (decLt q r) (decLt r q)
+  where
+    go : Dec (q < r) → Dec (r < q) → q ≡ r
+    go (yes l) k = absurd (t .least q (s .past) l (s .back))
+    go (no l) (yes k) = absurd (s .least r (t .past) k (t .back))
+    go (no l) (no k) = omega arith
+
+pub last-unique : (w : List Bool) (p b q r : ℕ) → Last w p b q → Last w p b r → q ≡ r
+last-unique w p b q r s t = go (decLt q r) (decLt r q)
+  where
+    go : Dec (q < r) → Dec (r < q) → q ≡ r
+    go (yes l) k = absurd (s .most r l (t .past) (t .less))
+    go (no l) (yes k) = absurd (t .most q k (s .past) (s .less))
+    go (no l) (no k) = omega arith
+
+-- a node's closing is where the depth first comes back, and its opening where it last was
+pub span-next : (w : List Bool) (p e d : ℕ) → Span w p e d → Next w p (suc e)
+span-next w p e d s = record {
+  past = omega (arith, s .proper);
+  ends = s .within;
+  back = omega (arith, s .before, s .after);
+  least = λ j l h k. omega (arith, s .before, s .inside j l (omega arith));
+}
+
+pub span-last : (w : List Bool) (p e d : ℕ) → Span w p e d → Last w (suc e) 0 p
+span-last w p e d s = record {
+  past = omega (arith, s .proper);
+  less = omega (arith, s .before, s .after);
+  most = λ j l h k. omega (arith, s .before, s .after, s .inside j l (omega arith));
+}
+
+-- ---- up a line
+
+-- b levels up a line: a line, so much shorter, of a node whose branch holds the first one
+pub record Up (w : List Bool) (p e : ℕ) (ps : List ℕ) (b q : ℕ) : Type 0 where
+  pub c : ℕ
+  pub qs : List ℕ
+  pub upward : Line w q c qs
+  pub shorter : length qs + b ≡ length ps
+  pub left : q + b ≤ p
+  pub right : e ≤ c
+  pub rest : drop b (p ∷ ps) ≡ q ∷ qs
+
+pub line-up : (w : List Bool) (b p e : ℕ) (ps : List ℕ) (q : ℕ) → Line w p e ps → getElem? (p ∷ ps) b ≡ some q → Up w p e ps b q
+line-up w zero p e ps q g h =
+    let i : p ≡ q = cc in
+    rw (← i) (record { c = e; qs = ps; upward = g; shorter = omega arith; left = omega arith; right = omega arith; rest = refl })
+line-up w (suc b) p e [] q g h = absurd (Option·none-ne-some q h)
+line-up w (suc b) p e (r ∷ ps) q g h =
+    let u = line-up w b r (g .1 .0) ps q (g .1 .3, g .1 .4) h in
+    record { c = u .c; qs = u .qs; upward = u .upward; shorter = omega (arith, u .shorter); left = omega (arith, u .left); right = omega (arith, u .right); rest = u .rest }
+
+line-none : (b : ℕ) (ps : List ℕ) → getElem? ps b ≡ none → length ps ≤ b
+line-none b [] e = omega arith
+line-none zero (p ∷ ps) e = absurd (Option·none-ne-some p (sym e))
+line-none (suc b) (p ∷ ps) e = omega (arith, line-none b ps e)
+
+pub up-last : (w : List Bool) (b p e : ℕ) (ps : List ℕ) (q : ℕ) → Line w p e ps → 0 < b → getElem? (p ∷ ps) b ≡ some q → Last w p b q
+up-last w b p e ps q g l h =
+    let u = line-up w b p e ps q g h in
+    record {
+      past = omega (arith, u .left);
+      less = omega (arith, g .0 .before, u .upward .0 .before, u .shorter);
+      most = λ j k i z. omega (arith, g .0 .before, u .shorter, u .upward .0 .inside j k (omega (arith, u .right, g .0 .proper)));
+    }
+
+pub up-none : (w : List Bool) (b p e : ℕ) (ps : List ℕ) → Line w p e ps → getElem? (p ∷ ps) b ≡ none → (q : ℕ) → height w q + b ≢ height w p
+up-none w b p e ps g h q k = omega (arith, g .0 .before, line-none b (p ∷ ps) h)
+
+-- ---- one place, one line
+
+same-end : (w : List Bool) (p e c d b : ℕ) → Span w p e d → Span w p c b → e ≡ c
+same-end w p e c d b s t = go (decLt e c) (decLt c e)
+  where
+    go : Dec (e < c) → Dec (c < e) → e ≡ c
+    go (yes l) q = absurd (omega (arith, s .before, t .before, s .after, t .inside (suc e) (omega (arith, s .proper)) l))
+    go (no l) (yes q) = absurd (omega (arith, s .before, t .before, t .after, s .inside (suc c) (omega (arith, t .proper)) q))
+    go (no l) (no q) = omega arith
+
+same-parent : (w : List Bool) (p e c q r : ℕ) (qs rs : List ℕ) → Line w p e (q ∷ qs) → Line w p c (r ∷ rs) → q ≡ r
+same-parent w p e c q r qs rs g h = go (decLt q r) (decLt r q)
+  where
+    go : Dec (q < r) → Dec (r < q) → q ≡ r
+    go (yes l) k = absurd (omega (arith, g .0 .before, h .0 .before, h .1 .3 .before, g .1 .3 .inside r l (omega (arith, g .0 .proper))))
+    go (no l) (yes k) = absurd (omega (arith, g .0 .before, h .0 .before, g .1 .3 .before, h .1 .3 .inside q k (omega (arith, h .0 .proper))))
+    go (no l) (no k) = omega arith
+
+pub same-line : (w : List Bool) (p e c : ℕ) (ps qs : List ℕ) → Line w p e ps → Line w p c qs → ps ≡ qs
+same-line w p e c [] [] g h = refl
+same-line w p e c [] (q ∷ qs) g h = absurd (omega (arith, g .0 .before, h .0 .before))
+same-line w p e c (q ∷ ps) [] g h = absurd (omega (arith, g .0 .before, h .0 .before))
+same-line w p e c (q ∷ ps) (r ∷ qs) g h =
+    let i : q ≡ r = same-parent w p e c q r ps qs g h in
+    ap₂ _∷_ i (same-line w r (g .1 .0) (h .1 .0) ps qs (subst (λ n. Line w n (g .1 .0) ps) i (g .1 .3, g .1 .4)) (h .1 .3, h .1 .4))
+
+-- ---- who is on a line: those in whose branch it starts
+
+pub between-on : (w : List Bool) (q c d p e : ℕ) (ps : List ℕ) → Span w q c d → Line w p e ps → q ≤ p → p ≤ c → on (p ∷ ps) q ≡ true
+between-on w q c d p e [] s g l h = go (ℕ-discrete p q)
+  where
+    go : Dec (p ≡ q) → on (p ∷ []) q ≡ true
+    go (yes i) = on-here p q [] i
+    go (no n) = absurd (omega (arith, s .inside p (omega arith) h, g .0 .before))
+between-on w q c d p e (r ∷ ps) s g l h = go (ℕ-discrete p q) (decLe q r) (λ k. between-on w q c d r (g .1 .0) ps s (g .1 .3, g .1 .4) k (omega arith))
+  where
+    go : Dec (p ≡ q) → Dec (q ≤ r) → (q ≤ r → on (r ∷ ps) q ≡ true) → on (p ∷ r ∷ ps) q ≡ true
+    go (yes i) k ih = on-here p q (r ∷ ps) i
+    go (no n) (yes k) ih = on-up p q (r ∷ ps) (ih k)
+    go (no n) (no k) ih = absurd (omega (arith, s .before, s .inside p (omega arith) h, g .0 .before, g .0 .proper, g .1 .3 .inside q (omega arith) (omega (arith, g .0 .proper))))
+
+pub on-between : (w : List Bool) (q c d p e : ℕ) (ps : List ℕ) → Span w q c d → Line w p e ps → on (p ∷ ps) q ≡ true → (q ≤ p) × (e ≤ c)
+on-between w q c d p e [] s g o = go (on-cases p q [] o)
+  where
+    go : (p ≡ q) ⊎ (false ≡ true) → (q ≤ p) × (e ≤ c)
+    go (inl i) = (omega arith, omega (arith, same-end w q e c 0 d (subst (λ n. Span w n e 0) i (g .0)) s))
+    go (inr i) = absurd (true-is false i)
+on-between w q c d p e (r ∷ ps) s g o = go (on-cases p q (r ∷ ps) o) (on-between w q c d r (g .1 .0) ps s (g .1 .3, g .1 .4))
+  where
+    go : (p ≡ q) ⊎ (on (r ∷ ps) q ≡ true) → (on (r ∷ ps) q ≡ true → (q ≤ r) × (g .1 .0 ≤ c)) → (q ≤ p) × (e ≤ c)
+    go (inl i) ih = (omega arith, omega (arith, same-end w q e c (suc (length ps)) d (subst (λ n. Span w n e (suc (length ps))) i (g .0)) s))
+    go (inr o) ih = (omega (arith, ih o), omega (arith, ih o))
+
+-- ---- From a, up its line to the first node whose branch has the later node b: as far as the least depth between them says
+
+module _ (w : List Bool) (a b e m : ℕ) (bs : List ℕ) (gb : Line w b e bs) (ab : a < b) (lm : Least w a b m) where
+  stops : (p c : ℕ) (ps : List ℕ) → Line w p c ps → p ≤ a → b ≤ c → shared (p ∷ ps) (b ∷ bs) ≡ getElem? (p ∷ ps) (suc (length ps) - m)
+  stops p c ps g l h =
+      let r = lm .reached in
+      let i : suc (length ps) - m ≡ 0 = omega (arith, g .0 .inside (r .0) (omega arith) (omega arith)) in
+      ap (λ t. cond t (some p) (shared ps (b ∷ bs))) (between-on w p c (length ps) b e bs (g .0) gb (omega arith) h) ∙ ap (getElem? (p ∷ ps)) (sym i)
+
+  goes-on : (p c : ℕ) (ps : List ℕ) → Line w p c ps → a ≤ c → c < b → (shared (p ∷ ps) (b ∷ bs) ≡ shared ps (b ∷ bs)) × (m ≤ length ps)
+  goes-on p c ps g h k = (go (on (b ∷ bs) p) refl, omega (arith, g .0 .after, lm .low (suc c) (omega arith) k))
+    where
+      go : (t : Bool) → on (b ∷ bs) p ≡ t → cond t (some p) (shared ps (b ∷ bs)) ≡ shared ps (b ∷ bs)
+      go true o = absurd (omega (arith, gb .0 .proper, on-between w p c (length ps) b e bs (g .0) gb o))
+      go false o = refl
+
+  pub climb : (p c : ℕ) (ps : List ℕ) → Line w p c ps → p ≤ a → a ≤ c → shared (p ∷ ps) (b ∷ bs) ≡ getElem? (p ∷ ps) (suc (length ps) - m)
+  climb p c [] g l h = go (decLe b c)
+    where
+      go : Dec (b ≤ c) → shared (p ∷ []) (b ∷ bs) ≡ getElem? (p ∷ []) (1 - m)
+      go (yes k) = stops p c [] g l k
+      go (no k) = let r = goes-on p c [] g h (omega arith) in r .0 ∙ ap (getElem? (p ∷ [])) (eq 1 (1 - m) (omega arith))
+  climb p c (q ∷ ps) g l h = go (decLe b c) (climb q (g .1 .0) ps (g .1 .3, g .1 .4) (omega arith) (omega arith))
+    where
+      go : Dec (b ≤ c) → shared (q ∷ ps) (b ∷ bs) ≡ getElem? (q ∷ ps) (suc (length ps) - m) → shared (p ∷ q ∷ ps) (b ∷ bs) ≡ getElem? (p ∷ q ∷ ps) (suc (suc (length ps)) - m)
+      go (yes k) ih = stops p c (q ∷ ps) g l k
+      go (no k) ih = let r = goes-on p c (q ∷ ps) g h (omega arith) in
+          r .0 ∙ ih ∙ ap (getElem? (p ∷ q ∷ ps)) (eq (suc (suc (length ps) - m)) (suc (suc (length ps)) - m) (omega arith))
