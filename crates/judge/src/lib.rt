@@ -1,0 +1,1 @@
+pub fn stub(x: u32) -> u32 { x }
