@@ -1,2 +1,4 @@
+pub mod Answer
 pub mod Decode
+pub mod Reads
 pub mod Reply
