@@ -8,4 +8,3 @@ pub mod Machine
 pub mod Options
 pub mod Places
 pub mod Signed64
-pub mod Wanted
