@@ -7,5 +7,8 @@ pub mod Hit
 pub mod Machine
 pub mod Options
 pub mod Places
+pub mod Prefix
+pub mod Range
+pub mod Select
 pub mod Signed64
 pub mod Wanted
