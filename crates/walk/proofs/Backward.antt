@@ -30,7 +30,7 @@ use Rattle.walk.proofs.Amounts.{depth-nil, D-depth}
 use Rattle.walk.proofs.Hit.{hits}
 use Rattle.walk.proofs.Final.{Final, final-split, final-some, final-none, final-nil, final-scans, early, later-part, earlier-part}
 use Rattle.walk.proofs.Places.{Starts, Earlier, stretch, drop-take, left-half, right-half, leaf-level, leaf-starts, not-one, root-start, left-starts, right-starts, starts-even, starts-odd, stands}
-use Rattle.walk.proofs.Wanted.{Backward, NoBackward}
+use Rattle.word.specs.Depth.{Backward, NoBackward}
 
 -- one level down, by what the right child says
 module _ (w : List Bool) (g a : ℕ) (t : ℤ) (s : Summary) (e : s ≡ summaryOf (stretch w g (a + 2 ^ g))) where

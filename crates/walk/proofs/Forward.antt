@@ -24,7 +24,7 @@ use Rattle.walk.proofs.Options.{by-option, found-or-not, only, either-i
 use Rattle.walk.proofs.Amounts.{D-depth}
 use Rattle.walk.proofs.First.{first-split, first-some, first-none, first-nil, front, back}
 use Rattle.walk.proofs.Places.{Starts, Ends, stretch, left-half, right-half, leaf-level, leaf-ends, not-one, left-starts, right-starts, next-starts, ends-even, ends-odd, stands}
-use Rattle.walk.proofs.Wanted.{Forward, NoForward}
+use Rattle.word.specs.Depth.{Forward, NoForward}
 
 -- one level down, by what the left child says
 module _ (w : List Bool) (g a : ℕ) (t : ℤ) (s : Summary) (e : s ≡ summaryOf (stretch w g a)) where

@@ -11,4 +11,3 @@ pub mod Prefix
 pub mod Range
 pub mod Select
 pub mod Signed64
-pub mod Wanted

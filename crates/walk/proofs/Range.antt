@@ -1,6 +1,6 @@
 -- The range walk gives the summary of the bits between two boundaries, and reads at most 2h - 2 entries.
 use mathlib.Core.Path.{_≡_, refl, sym, ap, _∙_}
-use mathlib.Core.Bool.{Bool, true, false, cond}
+use mathlib.Core.Bool.{Bool, false, cond}
 use mathlib.Core.List.{List, [], _++_, append-assoc, append-nil}
 use Prim.Native.Nat.{ℕ, zero, suc, _+_, _-_, _*_, _/_, _%_, _^_, _≤_, _<_}
 use native.Mathlib.Omega.{arith}
@@ -10,7 +10,6 @@ use lib.Dec.{eqb, eqb→eq}
 use lib.ListN.{length, take, drop}
 use lib.Seq.{take-add, drop-drop}
 use Rattle.word.proofs.Signed.{by-test, true-T, true≢false}
-use Rattle.summary.specs.declared.Summary.{Summary}
 use Rattle.summary.specs.Stretch.{summaryOf}
 use Rattle.summary.specs.Join.{joinOf}
 use Rattle.summary.proofs.Append.{summary-append}
@@ -137,9 +136,10 @@ module _ (h : ℕ) (w : List Bool) where
           ≤ n + 2 * (suc f - 1))
       on o u v =
           let i = ih (suc g) (k / 2) (r / 2) (u .end) (v .start) (x ++ u .bits) (v .bits ++ y) (n + (cond (even k) 1 0 + cond (even r) 0 1)) (level-up l) (level-up m) o (u .ends) (v .starts) in
-          rw (u .sum x, v .sum y)
-          (i .0 ∙ ap summaryOf (around x y u v (ordered (suc g) (k / 2) (r / 2) (u .end) (v .start) (u .ends) (v .starts) o)),
-            omega (arith, i .1, few k r, apart (level-up l) (level-up m) o))
+          rw (u .sum x, v .sum y) (
+            i .0 ∙ ap summaryOf (around x y u v (ordered (suc g) (k / 2) (r / 2) (u .end) (v .start) (u .ends) (v .starts) o)),
+            omega (arith, i .1, few k r, apart (level-up l) (level-up m) o),
+          )
 
   up : (f : ℕ) → Up f
   up zero = up-zero
@@ -152,8 +152,15 @@ module _ (h : ℕ) (w : List Bool) where
         let e : suc c - a ≡ (256 - a % 256) + (256 * (c / 256 - suc (a / 256)) + suc (c % 256)) = omega arith in
         let d : a + (256 - a % 256) ≡ 256 * suc (a / 256) = omega arith in
         let i : 256 * suc (a / 256) + 256 * (c / 256 - suc (a / 256)) ≡ 256 * (c / 256) = omega arith in
-        rw (e, take-add (256 - a % 256) (256 * (c / 256 - suc (a / 256)) + suc (c % 256)) (drop a w), drop-drop, d,
-          take-add (256 * (c / 256 - suc (a / 256))) (suc (c % 256)) (drop (256 * suc (a / 256)) w), drop-drop, i)
+        rw (
+          e,
+          take-add (256 - a % 256) (256 * (c / 256 - suc (a / 256)) + suc (c % 256)) (drop a w),
+          drop-drop,
+          d,
+          take-add (256 * (c / 256 - suc (a / 256))) (suc (c % 256)) (drop (256 * suc (a / 256)) w),
+          drop-drop,
+          i,
+        )
 
     both : (range h w a (suc c) .0 ≡ summaryOf (take (suc c - a) (drop a w))) × (range h w a (suc c) .1 ≤ 2 * (h - 1))
     unfolding range
@@ -163,7 +170,7 @@ module _ (h : ℕ) (w : List Bool) where
         (λ e. rw e (refl, omega arith))
         (λ e. let l : a / 256 < c / 256 = omega (arith, differ (a / 256) (c / 256) e) in
         let i = up h 0 (2 ^ h + a / 256) (2 ^ h + c / 256) (suc (a / 256)) (c / 256) (ahead w a) (upTo w c) 0
-            (leaf-level h (length w) a m (omega arith)) (leaf-level h (length w) c m b) (omega arith) (leaf-ends h (a / 256)) (leaf-starts h (c / 256)) in
+        (leaf-level h (length w) a m (omega arith)) (leaf-level h (length w) c m b) (omega arith) (leaf-ends h (a / 256)) (leaf-starts h (c / 256)) in
         rw e (i .0 ∙ ap summaryOf (pieces l), omega (arith, i .1))))
 
   module _ (m : length w ≤ 256 * 2 ^ h) where
