@@ -7,4 +7,7 @@ pub mod Hit
 pub mod Machine
 pub mod Options
 pub mod Places
+pub mod Prefix
+pub mod Range
+pub mod Select
 pub mod Signed64

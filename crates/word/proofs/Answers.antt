@@ -188,8 +188,8 @@ module _ (f : Forest) (a b : ℕ) (oa : getD (encode f) a false ≡ true) (ob : 
     (λ t. and-eq-true-iff (leb a b) (ltb b q) .1
         (T-true (leb a b) (le→leb a b (between .0 t .0)), T-true (ltb b q) (lt→ltb b q (omega (arith, returns f a oa q h, between .0 t))))),
     λ t.
-      let i : (leb a b ≡ true) × (ltb b q ≡ true) = and-eq-true-iff (leb a b) (ltb b q) .0 t in
-      between .1 (leb→le a b (true-T (i .0)), omega (arith, returns f a oa q h, ltb→lt b q (true-T (i .1)))),
+        let i : (leb a b ≡ true) × (ltb b q ≡ true) = and-eq-true-iff (leb a b) (ltb b q) .0 t in
+        between .1 (leb→le a b (true-T (i .0)), omega (arith, returns f a oa q h, ltb→lt b q (true-T (i .1)))),
   )
 
   -- the earlier node and the later: up from the earlier by its depth plus one less the least D after it up to the later
