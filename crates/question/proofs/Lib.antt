@@ -1,3 +1,5 @@
 pub mod Answers
 pub mod Checks
+pub mod Least
 pub mod Marked
+pub mod Ranges
