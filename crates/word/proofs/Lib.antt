@@ -11,3 +11,5 @@ pub mod Balance
 pub mod Children
 pub mod Answers
 pub mod Lowest
+pub mod Demands
+pub mod Breaks

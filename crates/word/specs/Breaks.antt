@@ -20,21 +20,32 @@ pub data Break : Type 0 where
   closingAlone : ℕ → Break
   openingAlone : ℕ → Break
 
--- the first of the places, the last of which came first
+-- "a closing that has no partner, with the place of the first such closing"
+pub record ClosingAlone (w : List Bool) (i : ℕ) : Type 0 where
+  pub closing : getD w i true ≡ false
+  pub alone : (a : ℕ) → Partners w a i → ⊥
+  pub first : (c : ℕ) → c < i → getD w c true ≡ false → (a : ℕ) × Partners w a c
+
+-- "openings left over at the end, with the place of the first one that is never closed", where no closing is without a partner
+pub record OpeningAlone (w : List Bool) (i : ℕ) : Type 0 where
+  pub closings : (c : ℕ) → getD w c true ≡ false → (a : ℕ) × Partners w a c
+  pub opening : getD w i false ≡ true
+  pub alone : (c : ℕ) → Partners w i c → ⊥
+  pub first : (a : ℕ) → a < i → getD w a false ≡ true → (c : ℕ) × Partners w a c
+
+-- Found by reading the row from place i on. `waiting` are the places of the openings that wait for their closing, the last one first; a
+-- closing takes the last one for its partner
 abbrev pub earliest : ℕ → List ℕ → ℕ
 earliest p [] = p
-earliest p (q ∷ qs) = earliest q qs
+earliest p (q ∷ waiting) = earliest q waiting
 
--- The row is read from place i on; `open` are the places of the openings that wait for their closing, the last one first. A closing takes
--- the last one for its partner
 abbrev pub breaksFrom : ℕ → List ℕ → List Bool → Option Break
 breaksFrom i [] [] = none
-breaksFrom i (p ∷ ps) [] = some (openingAlone (earliest p ps))
-breaksFrom i ps (true ∷ w) = breaksFrom (suc i) (i ∷ ps) w
+breaksFrom i (p ∷ waiting) [] = some (openingAlone (earliest p waiting))
+breaksFrom i waiting (true ∷ w) = breaksFrom (suc i) (i ∷ waiting) w
 breaksFrom i [] (false ∷ w) = some (closingAlone i)
-breaksFrom i (p ∷ ps) (false ∷ w) = breaksFrom (suc i) ps w
+breaksFrom i (p ∷ waiting) (false ∷ w) = breaksFrom (suc i) waiting w
 
--- "a closing that has no partner, with the place of the first such closing"; else "openings left over at the end, with the place of the
--- first one that is never closed"
+-- where a row breaks, none if it is balanced (proofs/Breaks.antt: it is as `ClosingAlone` and `OpeningAlone` say)
 unfoldable pub breaks : List Bool → Option Break
 breaks w = breaksFrom zero [] w
