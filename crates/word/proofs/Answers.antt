@@ -3,9 +3,9 @@
 use mathlib.Core.Path.{_≡_, refl, sym, ap, ap₂, subst, _∙_}
 use mathlib.Core.Logic.{_↔_}
 use mathlib.Core.Bool.{Bool, true, false, cond, _&&_, and-eq-true-iff}
-use mathlib.Core.List.{List, [], _∷_}
+use mathlib.Core.List.{List, _∷_}
 use mathlib.Core.Option.{Option, none, some, Option·none-ne-some}
-use Prim.Native.Nat.{ℕ, zero, suc, pred, _+_, _-_, _*_, _/_, _≤_, _<_}
+use Prim.Native.Nat.{ℕ, suc, pred, _+_, _-_, _*_, _/_, _≤_, _<_}
 use native.Mathlib.Omega.{arith}
 use native.Mathlib.Decide.{decLt}
 use lib.Dec.{leb, ltb, leb→le, le→leb, ltb→lt, lt→ltb}
@@ -14,24 +14,28 @@ use lib.IntN.{ℤ, pos, negℤ, _+ℤ_, _-ℤ_}
 use lib.Signed.{_≤ℤ_, _<ℤ_}
 use Rattle.word.specs.Forest.{Forest, empty, tree, encode, count, D}
 use Rattle.word.specs.Depth.{Forward, NoForward, Backward, NoBackward, Least}
-use Rattle.word.specs.Nodes.{Node, closing, table, find, closesAt, at, ask, chainOf, chain, on}
+use Rattle.word.specs.Nodes.{Node, closing, at, ask, chainOf, chain, on}
 use Rattle.word.specs.Questions.{shared, size, roots, firstRoot}
 use Rattle.word.specs.Questions.{depth, number, withNumber, closingOf, openingOf, ancestor, parent, branch, children, firstChild, nextSibling, nearest, lowest, holds}
-use Rattle.word.specs.Signed.{P, N, eqZ}
+use Rattle.word.specs.Signed.{P, eqZ}
 use Rattle.word.proofs.Tests.{T-true, true-T, same-test}
 use Rattle.word.proofs.Signed.{zarith, parts, ne→, +law, -law, P-neg, N-neg}
-use Rattle.word.proofs.Depth.{eq, bit-in, rank, rank-sum, D-law, forward-unique, backward-unique}
-use Rattle.word.proofs.Bridge.{Span, any}
+use Rattle.word.proofs.Depth.{eq, bit-in, count-append, rank-sum, D-law, forward-unique, backward-unique}
+use Rattle.word.proofs.Bridge.{any}
 use Rattle.word.proofs.Balance.{never-negative, D-is-pos}
-use Rattle.word.proofs.Nodes.{At, node-at, number-rank, with-rank, with-none, Opening, opening-of, closed-at}
-use Rattle.word.proofs.Chains.{Floor, on-here, span-forward, span-backward, up-backward, up-none, between-on, on-between, climb}
+use Rattle.word.proofs.Nodes.{At, node-at, number-rank, with-rank, with-none, opening-of, closed-at}
+use Rattle.word.proofs.Chains.{Floor, span-forward, span-backward, up-backward, up-none, between-on, on-between, climb}
 use Rattle.word.proofs.Children.{tally, roots-part}
 use Rattle.word.proofs.Lowest.{lowest-unique, lowest-is}
 
--- n = m/2 nodes
+-- "n = m/2 nodes", one for each opening
 pub size-length : (f : Forest) → 2 * size f ≡ length (encode f)
 size-length empty = refl
 size-length (tree k r) = omega (arith, size-length k, size-length r, length-append (encode k) (false ∷ encode r))
+
+pub size-openings : (f : Forest) → size f ≡ count true (encode f)
+size-openings empty = refl
+size-openings (tree k r) = omega (arith, size-openings k, size-openings r, count-append true (encode k) (false ∷ encode r))
 
 first-root : (k : Forest) (p : ℕ) → firstRoot k p ≡ cond (any k) (some p) none
 first-root empty p = refl
@@ -62,6 +66,7 @@ module _ (f : Forest) (a : ℕ) (o : getD (encode f) a false ≡ true) where
   -- ---- kinds 1 to 3, by D before the node's opening
 
   pub depth-by : (d : ℕ) → pos d ≡ D (encode f) a → depth f a ≡ some d
+  unfolding depth
   depth-by d e = asked (λ x. some (length (x .above))) ∙ ap some (omega (zarith, n .upward .0 .before))
 
   pub number-by : (r : ℕ) → pos (2 * r) ≡ pos a +ℤ D (encode f) a → number f a ≡ some r
@@ -86,25 +91,31 @@ module _ (f : Forest) (a : ℕ) (o : getD (encode f) a false ≡ true) where
   returns q h = forward-unique (encode f) a (pos 0) (suc (closing (n .x))) q forward-found h
 
   pub closing-by : (q : ℕ) → Forward (encode f) a (pos 0) q → closingOf f a ≡ some (pred q)
+  unfolding closingOf
   closing-by q h = asked (λ x. some (closing x)) ∙ ap (λ r. some (pred r)) (returns q h)
 
   pub branch-by : (q : ℕ) → Forward (encode f) a (pos 0) q → branch f a ≡ some ((q - a) / 2)
+  unfolding branch
   branch-by q h = asked (λ x. some (suc (size (x .kids)))) ∙ ap some (omega (arith, n .here, size-length (n .x .kids), returns q h))
 
   pub nextSibling-by : (q : ℕ) → Forward (encode f) a (pos 0) q → nextSibling f a ≡ cond (getD (encode f) q false) (some q) none
+  unfolding nextSibling
   nextSibling-by q h = asked (λ x. firstRoot (x .rest) (suc (closing x))) ∙ first-root (n .x .rest) (suc (closing (n .x)))
       ∙ ap (λ b. cond b (some (suc (closing (n .x)))) none) (sym (n .placed .sibling)) ∙ ap (λ p. cond (getD (encode f) p false) (some p) none) (returns q h)
 
   pub firstChild-by : firstChild f a ≡ cond (getD (encode f) (suc a) false) (some (suc a)) none
+  unfolding firstChild
   firstChild-by = asked (λ x. firstRoot (x .kids) (suc a)) ∙ first-root (n .x .kids) (suc a)
       ∙ ap (λ b. cond b (some (suc a)) none) (sym (n .placed .child) ∙ ap (λ p. getD (encode f) (suc p) false) (n .here))
 
   -- ---- kinds 6 and 7: backward from the node
 
   pub ancestor-self : ancestor f a 0 ≡ some a
+  unfolding ancestor
   ancestor-self = ap (λ l. getElem? l 0) chain-is
 
   pub ancestor-by : (b p : ℕ) → 0 < b → Backward (encode f) a (negℤ (pos b)) p → ancestor f a b ≡ some p
+  unfolding ancestor
   ancestor-by b p l h = ap (λ l. getElem? l b) chain-is ∙ go (getElem? (a ∷ n .x .above) b) refl
     where
       go : (r : Option ℕ) → getElem? (a ∷ n .x .above) b ≡ r → getElem? (a ∷ n .x .above) b ≡ some p
@@ -113,6 +124,7 @@ module _ (f : Forest) (a : ℕ) (o : getD (encode f) a false ≡ true) where
       go (some q) e = e ∙ ap some (backward-unique (encode f) a (negℤ (pos b)) q p (up-backward (encode f) b a (closing (n .x)) (n .x .above) q (n .upward) l e) h)
 
   pub ancestor-none : (b : ℕ) → 0 < b → NoBackward (encode f) a (negℤ (pos b)) → ancestor f a b ≡ none
+  unfolding ancestor
   ancestor-none b l h = ap (λ l. getElem? l b) chain-is ∙ go (getElem? (a ∷ n .x .above) b) refl
     where
       go : (r : Option ℕ) → getElem? (a ∷ n .x .above) b ≡ r → getElem? (a ∷ n .x .above) b ≡ none
@@ -120,14 +132,17 @@ module _ (f : Forest) (a : ℕ) (o : getD (encode f) a false ≡ true) where
       go (some q) e = let s = up-backward (encode f) b a (closing (n .x)) (n .x .above) q (n .upward) l e in absurd (h .nowhere q (s .earlier) (s .there))
 
   pub parent-by : (p : ℕ) → Backward (encode f) a (negℤ (pos 1)) p → parent f a ≡ some p
+  unfolding parent
   parent-by p h = ancestor-by 1 p (omega arith) h
 
   pub parent-none : NoBackward (encode f) a (negℤ (pos 1)) → parent f a ≡ none
+  unfolding parent
   parent-none h = ancestor-none 1 (omega arith) h
 
   -- ---- kind 9: forward from the node by 0, then the range of its kids' word
 
   pub children-by : (q : ℕ) → Forward (encode f) a (pos 0) q → Kids f a q
+  unfolding children
   children-by q h =
       let k : Forest = n .x .kids in
       let l : pred q ≡ suc a + length (encode k) = omega (arith, n .here, returns q h) in
@@ -167,6 +182,7 @@ module _ (f : Forest) (a : ℕ) (o : getD (encode f) a true ≡ false) where
   backward-some h = h .nowhere (closed-at f a o .x .place) (backward-found .earlier) (backward-found .there)
 
   pub opening-by : (p : ℕ) → Backward (encode f) (suc a) (pos 0) p → openingOf f a ≡ some p
+  unfolding openingOf
   opening-by p h = ap (λ y. ask y (λ x. some (x .place))) (closed-at f a o .found)
       ∙ ap some (backward-unique (encode f) (suc a) (pos 0) (closed-at f a o .x .place) p backward-found h)
 
@@ -175,6 +191,7 @@ module _ (f : Forest) (a : ℕ) (o : getD (encode f) a true ≡ false) where
 module _ (f : Forest) (a b : ℕ) (oa : getD (encode f) a false ≡ true) (ob : getD (encode f) b false ≡ true) where
   -- b is in a's branch exactly where it stands between a and a's closing
   pub between : (holds f a b ≡ true) ↔ ((a ≤ b) × (b ≤ closing (node-at f a oa .x)))
+  unfolding holds
   between =
       let x = n f a oa in
       let y = n f b ob in (
@@ -194,6 +211,7 @@ module _ (f : Forest) (a b : ℕ) (oa : getD (encode f) a false ≡ true) (ob : 
 
   -- the earlier node and the later: up from the earlier by its depth plus one less the least D after it up to the later
   nearest-up : (m : ℕ) → a < b → Floor (encode f) a b m → nearest f a b ≡ ancestor f a (suc (P (D (encode f) a)) - m)
+  unfolding nearest ancestor
   nearest-up m l h =
       let x = n f a oa in
       let y = n f b ob in
@@ -250,6 +268,10 @@ module _ (f : Forest) (a b : ℕ) (oa : getD (encode f) a false ≡ true) (ob : 
       nearest-none g = up ∙ ancestor-none f a oa steps (omega (zarith, m-is, positive, +law (D (encode f) a) l)) (subst (λ t. NoBackward (encode f) a t) (sym back) g)
 
 -- ---- kind 13: two boundaries of any word
+
+pub lowest-here : (w : List Bool) (a : ℕ) → lowest w a 0 ≡ a
+unfolding lowest
+lowest-here w a = refl
 
 module _ (w : List Bool) (a n : ℕ) (l : ℤ) (h : Least w a (a + n) l) where
   from-a : (P : ℕ → Type 0) → P a → ((j : ℕ) → a < j → j ≤ a + n → P j) → (j : ℕ) → a ≤ j → j ≤ a + n → P j

@@ -1,19 +1,19 @@
 -- A word is balanced exactly when D is never negative at any boundary and ends at 0. Assumes nothing.
-use mathlib.Core.Path.{_≡_, refl, sym, ap, subst, _∙_}
+use mathlib.Core.Path.{_≡_, refl, subst}
 use mathlib.Core.Logic.{_↔_}
 use mathlib.Core.Bool.{Bool, true, false}
 use mathlib.Core.List.{List, [], _∷_}
 use Prim.Native.Nat.{ℕ, zero, suc, _+_, _≤_}
 use native.Mathlib.Omega.{arith}
-use lib.ListN.{length, take}
-use lib.IntN.{ℤ, pos}
+use lib.ListN.{length}
+use lib.IntN.{pos}
 use lib.Signed.{_≤ℤ_}
 use Rattle.word.specs.Forest.{Forest, encode, Balanced, count, D}
-use Rattle.word.specs.Parse.{isBalanced}
+use Rattle.word.specs.Parse.{atClosing, atOpening, read, isBalanced}
 use Rattle.word.specs.Signed.{P}
 use Rattle.word.proofs.Signed.{zarith, parts}
 use Rattle.word.proofs.Depth.{rank, D-law, D-end}
-use Rattle.word.proofs.Parse.{judge, judge-sound, isBalanced-iff}
+use Rattle.word.proofs.Parse.{one-left, isBalanced-iff}
 use Rattle.word.proofs.Bridge.{even, never-below}
 
 -- ---- a forest's word
@@ -31,17 +31,27 @@ module _ (f : Forest) where
 
 -- ---- any word
 
-judged : (w : List Bool) (h : ℕ) → ((p : ℕ) → p ≤ length w → rank false w p ≤ h + rank true w p) → h + count true w ≡ count false w → judge h w ≡ true
-judged [] zero low ends = refl
-judged [] (suc h) low ends = absurd (omega arith)
-judged (true ∷ w) h low ends = judged w (suc h) (λ p l. omega (arith, low (suc p) (omega arith))) (omega arith)
-judged (false ∷ w) zero low ends = absurd (omega (arith, low 1 (omega arith)))
-judged (false ∷ w) (suc h) low ends = judged w h (λ p l. omega (arith, low (suc p) (omega arith))) (omega arith)
+-- read from its end, a word that has h closings too many, and never more than h, leaves h + 1 forests
+read-length : (w : List Bool) (h : ℕ) → ((p : ℕ) → p ≤ length w → rank false w p ≤ h + rank true w p) → h + count true w ≡ count false w → length (read w) ≡ suc h
+read-length [] zero low ends = refl
+read-length [] (suc h) low ends = absurd (omega arith)
+read-length (true ∷ w) h low ends = go (read w) (read-length w (suc h) (λ p l. omega (arith, low (suc p) (omega arith))) (omega arith))
+  where
+    go : (t : List Forest) → length t ≡ suc (suc h) → length (atOpening t) ≡ suc h
+    go [] l = omega arith
+    go (f ∷ []) l = omega arith
+    go (f ∷ (g ∷ s)) l = omega arith
+read-length (false ∷ w) zero low ends = absurd (omega (arith, low 1 (omega arith)))
+read-length (false ∷ w) (suc h) low ends = go (read w) (read-length w h (λ p l. omega (arith, low (suc p) (omega arith))) (omega arith))
+  where
+    go : (t : List Forest) → length t ≡ suc h → length (atClosing t) ≡ suc (suc h)
+    go [] l = omega arith
+    go (f ∷ s) l = omega arith
 
 pub balanced-iff : (w : List Bool) → Balanced w ↔ (((p : ℕ) → p ≤ length w → pos 0 ≤ℤ D w p) × (D w (length w) ≡ pos 0))
 balanced-iff w = (
   (λ b. subst (λ u. ((p : ℕ) → p ≤ length u → pos 0 ≤ℤ D u p) × (D u (length u) ≡ pos 0)) (b .1) (never-negative (b .0), ends-at-0 (b .0))),
-  λ h. judge-sound w (judged w 0 (λ p l. omega (zarith, D-law w p, h .0 p l)) (omega (zarith, D-end w, h .1))),
+  λ h. one-left w (read-length w 0 (λ p l. omega (zarith, D-law w p, h .0 p l)) (omega (zarith, D-end w, h .1))),
 )
 
 pub isBalanced-by : (w : List Bool) → (isBalanced w ≡ true) ↔ (((p : ℕ) → p ≤ length w → pos 0 ≤ℤ D w p) × (D w (length w) ≡ pos 0))

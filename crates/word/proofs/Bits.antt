@@ -1,11 +1,11 @@
 -- The word that m bits of the lent bytes hold, and how D goes from bit to bit. Assumes nothing.
-use mathlib.Core.Path.{_≡_, refl, sym, ap, ap₂, _∙_}
+use mathlib.Core.Path.{_≡_, refl, ap, ap₂, _∙_}
 use mathlib.Core.Bool.{Bool, true, false}
 use mathlib.Core.List.{List, [], _∷_}
 use Prim.Native.Nat.{ℕ, zero, suc, _+_, _-_, _<_, min}
 use native.Mathlib.Omega.{arith}
 use lib.ListN.{length, take, drop, getD}
-use lib.IntN.{ℤ, pos, sucℤ, predℤ, negℤ, _+ℤ_, _-ℤ_, sucℤ-+ℤ, +ℤ-predℤ, negℤ-sucℤ}
+use lib.IntN.{pos, sucℤ, predℤ, negℤ, _+ℤ_, _-ℤ_, sucℤ-+ℤ, +ℤ-predℤ, negℤ-sucℤ}
 use Rattle.word.specs.Forest.{count, D}
 use Rattle.word.specs.Bits.{bit, bits, word}
 

@@ -3,32 +3,24 @@ use mathlib.Core.Path.{_≡_, refl, sym, ap, subst, _∙_}
 use mathlib.Core.Logic.{_↔_}
 use mathlib.Core.Bool.{Bool, true, false}
 use mathlib.Core.List.{List, [], _∷_}
-use mathlib.Core.Option.{Option, none, some, Option·none-ne-some}
-use Prim.Native.Nat.{ℕ, zero, suc, pred, _+_, _-_, _≤_, _<_}
+use mathlib.Core.Option.{Option, none, some}
+use Prim.Native.Nat.{ℕ, suc, pred, _+_, _-_, _≤_, _<_}
 use native.Mathlib.Omega.{arith}
 use native.Mathlib.Decide.{decLe, decLt, ℕ-discrete}
 use lib.ListN.{length, take, drop, getD, length-take, length-drop}
 use lib.Seq.{drop-drop, getD-drop}
-use lib.IntN.{ℤ, pos, negsuc, sucℤ, predℤ, _+ℤ_, +ℤ-one, -ℤ-one}
+use lib.IntN.{pos, negsuc}
 use lib.Signed.{_≤ℤ_, _<ℤ_}
 use Rattle.word.specs.Forest.{Balanced, D}
 use Rattle.word.specs.Depth.{Forward}
 use Rattle.word.specs.Breaks.{Partners, Break, closingAlone, openingAlone, ClosingAlone, OpeningAlone, earliest, breaksFrom, breaks}
 use Rattle.word.proofs.Tests.{true≢false}
-use Rattle.word.proofs.Signed.{zarith, ne→, +law, -law}
-use Rattle.word.proofs.Bits.{opens, closes}
-use Rattle.word.proofs.Depth.{eq, bit-in, D-law, D-part, forward-unique}
+use Rattle.word.proofs.Signed.{zarith, +law, -law}
+use Rattle.word.proofs.Depth.{eq, bit-in, D-law, D-up, D-down, D-part, forward-unique}
 use Rattle.word.proofs.Balance.{balanced-iff}
 use Rattle.word.proofs.Bridge.{Span}
 
 module _ (w : List Bool) where
-  -- one bit further
-  up : (i : ℕ) → getD w i false ≡ true → D w (suc i) ≡ D w i +ℤ pos 1
-  up i o = omega (zarith, opens w i o, D-law w i, D-law w (suc i), +law (D w i) (pos 1))
-
-  down : (i : ℕ) → getD w i true ≡ false → D w i ≡ D w (suc i) +ℤ pos 1
-  down i o = omega (zarith, closes w i o, D-law w i, D-law w (suc i), +law (D w (suc i)) (pos 1))
-
   -- ---- partners by D
 
   part-length : (n a : ℕ) → suc (a + n) ≤ length w → length (take n (drop (suc a) w)) ≡ n
@@ -39,15 +31,14 @@ module _ (w : List Bool) where
   partners-back a c p =
       let u : List Bool = take (p .n) (drop (suc a) w) in
       let long : length u ≡ p .n = part-length (p .n) a (omega (arith, p .apart, bit-in w c true (p .closing))) in
-      let e : D u (p .n) ≡ pos 0 = ap (D u) (sym long) ∙ balanced-iff u .0 (p .between) .1 in
-      (
+      let e : D u (p .n) ≡ pos 0 = ap (D u) (sym long) ∙ balanced-iff u .0 (p .between) .1 in (
         omega (arith, p .apart),
         omega (
           zarith,
-          up a (p .opening),
-          down c (p .closing),
+          D-up w a (p .opening),
+          D-down w c (p .closing),
           +law (D w a) (pos 1),
-          +law (D w (suc c)) (pos 1),
+          -law (D w c) (pos 1),
           ap (D w) (eq c (suc a + p .n) (omega (arith, p .apart))),
           D-part w (suc a) (p .n) (p .n) (omega arith),
           +law (D w (suc a)) (D u (p .n)),
@@ -70,7 +61,7 @@ module _ (w : List Bool) where
             zarith,
             s .before,
             s .inside (suc a + q) (omega arith) (omega arith),
-            up a (s .opened),
+            D-up w a (s .opened),
             +law (D w a) (pos 1),
             D-part w (suc a) n q (omega arith),
             +law (D w (suc a)) (D u q),
@@ -79,10 +70,10 @@ module _ (w : List Bool) where
             zarith,
             s .before,
             s .after,
-            up a (s .opened),
-            down c (s .closed),
+            D-up w a (s .opened),
+            D-down w c (s .closed),
             +law (D w a) (pos 1),
-            +law (D w (suc c)) (pos 1),
+            -law (D w c) (pos 1),
             ap (D w) here,
             D-part w (suc a) n n (omega arith),
             +law (D w (suc a)) (D u n),
@@ -119,7 +110,7 @@ module _ (w : List Bool) where
 
   push : (i : ℕ) (ps : List ℕ) → Waiting i ps → getD w i false ≡ true → Waiting (suc i) (i ∷ ps)
   push i ps h o =
-      let l : D w (suc i) ≡ pos (suc (length ps)) = omega (zarith, up i o, level-of i ps h, +law (D w i) (pos 1)) in (
+      let l : D w (suc i) ≡ pos (suc (length ps)) = omega (zarith, D-up w i o, level-of i ps h, +law (D w i) (pos 1)) in (
         omega arith,
         o,
         record {
@@ -139,7 +130,7 @@ module _ (w : List Bool) where
     closed = c;
     before = e;
     inside = λ q u v. omega (zarith, s .low q u v);
-    after = omega (zarith, down i c, s .level, +law (D w (suc i)) (pos 1));
+    after = omega (zarith, D-down w i c, s .level, -law (D w i) (pos 1));
   }
 
   -- so what began before that opening goes on after the closing
@@ -160,7 +151,7 @@ module _ (w : List Bool) where
       partnered a u v o (no x) (yes y) z = (i, subst (λ q. Partners w q i) (sym y) (span-partners p i d k))
       partnered a u v o (no x) (no y) (yes z) =
           let o′ : getD w i false ≡ true = ap (λ q. getD w q false) (sym z) ∙ o in
-          absurd (omega (zarith, up i o′, down i (k .closed), +law (D w i) (pos 1), +law (D w (suc i)) (pos 1)))
+          absurd (omega (zarith, D-up w i o′, D-down w i (k .closed), +law (D w i) (pos 1), -law (D w i) (pos 1)))
       partnered a u v o (no x) (no y) (no z) = s .partnered a (omega arith) (omega arith) o
 
   pop : (i p : ℕ) (ps : List ℕ) → Waiting i (p ∷ ps) → getD w i true ≡ false → Span w p i (length ps) × Waiting (suc i) ps
@@ -255,7 +246,7 @@ module _ (w : List Bool) where
       go none e = balanced-iff w .1 ((λ p h. e .low p (omega arith) h), e .level)
       go (some (closingAlone i)) e = record {
         closing = e .1;
-        alone = λ a p. let b = partners-back w a i p in omega (zarith, b, down w i (e .1), +law (D w (suc i)) (pos 1), e .0 .level, e .0 .low a (omega arith) (omega (arith, b)));
+        alone = λ a p. let b = partners-back w a i p in omega (zarith, b, D-down w i (e .1), -law (D w i) (pos 1), e .0 .level, e .0 .low a (omega arith) (omega (arith, b)));
         first = e .2;
       }
       go (some (openingAlone i)) e = record {
@@ -273,7 +264,7 @@ module _ (w : List Bool) where
       go (some (closingAlone i)) e = record {
         later = omega arith;
         within = bit-in w i true (e .1);
-        there = omega (zarith, down w i (e .1), e .0 .level, +law (D w (suc i)) (pos 1), D-law w 0, +law (D w 0) (negsuc 0));
+        there = omega (zarith, D-down w i (e .1), e .0 .level, -law (D w i) (pos 1), D-law w 0, +law (D w 0) (negsuc 0));
         first = λ j u v k. omega (zarith, e .0 .low j (omega arith) (omega arith), D-law w 0, +law (D w 0) (negsuc 0));
       }
       go (some (openingAlone i)) e = record { never = e .2; within = e .0 .inside; here = e .0 .before .level; above = e .0 .above }
@@ -313,3 +304,13 @@ module _ (w : List Bool) where
 
   pub breaks-opening : (i : ℕ) → (breaks w ≡ some (openingAlone i)) ↔ LastAtZero w i
   breaks-opening i = ((λ e. subst (Shows w) e shows), one-only (breaks w) (some (openingAlone i)) shows)
+
+-- "A row with both faults is a 6": `())(` breaks at its closing
+both-faults : breaks (true ∷ false ∷ false ∷ true ∷ []) ≡ some (closingAlone 2)
+unfolding breaks
+both-faults = refl
+
+-- `()((()` breaks at the first of the two openings that are never closed
+left-over : breaks (true ∷ false ∷ true ∷ true ∷ true ∷ false ∷ []) ≡ some (openingAlone 2)
+unfolding breaks
+left-over = refl

@@ -1,6 +1,6 @@
 -- The bridge from the forest to D: at every node D is its depth before its opening, more than that up to its closing, and its depth again
 -- after it. One induction over the forest shows it for all nodes. Assumes nothing.
-use mathlib.Core.Path.{_≡_, refl, sym, ap, ap₂, subst, _∙_}
+use mathlib.Core.Path.{_≡_, refl, sym, ap, subst, _∙_}
 use mathlib.Core.Bool.{Bool, true, false}
 use mathlib.Core.List.{List, [], _∷_, _++_, append-assoc, append-nil}
 use Prim.Native.Nat.{ℕ, zero, suc, pred, _+_, _-_, _≤_, _<_}
@@ -8,8 +8,8 @@ use native.Mathlib.Omega.{arith}
 use native.Mathlib.Decide.{decLe}
 use lib.ListN.{length, take, drop, getD, length-append, length-drop}
 use lib.Seq.{drop-drop, take-append-seam, drop-append-add, getD-drop, getD-append-seam, getD-append-add}
-use lib.IntN.{ℤ, pos}
-use lib.Signed.{_≤ℤ_, _<ℤ_}
+use lib.IntN.{pos}
+use lib.Signed.{_<ℤ_}
 use Rattle.word.specs.Forest.{Forest, empty, tree, encode, count, D}
 use Rattle.word.specs.Nodes.{Node, closing, nodes, table}
 use Rattle.word.proofs.Signed.{zarith}

@@ -3,22 +3,22 @@ use mathlib.Core.Path.{_≡_, refl, sym, ap, ap₂, subst, _∙_}
 use mathlib.Core.Logic.{_⊎_, inl, inr}
 use mathlib.Core.Bool.{Bool, true, false, cond}
 use mathlib.Core.List.{List, [], _∷_}
-use mathlib.Core.Option.{Option, none, some, Option·none-ne-some}
+use mathlib.Core.Option.{none, some, Option·none-ne-some}
 use Prim.Native.Nat.{ℕ, zero, suc, _+_, _-_, _≤_, _<_}
 use native.Mathlib.Omega.{arith}
 use native.Mathlib.Decide.{decLe, decLt, ℕ-discrete}
 use lib.Dec.{eqb}
 use lib.ListN.{length, drop, getElem?}
-use lib.IntN.{ℤ, pos, negℤ, _+ℤ_}
-use lib.Signed.{_≤ℤ_, _<ℤ_}
+use lib.IntN.{pos, negℤ, _+ℤ_}
+use lib.Signed.{_≤ℤ_}
 use Rattle.word.specs.Forest.{D}
-use Rattle.word.specs.Depth.{Forward, Backward, NoBackward}
+use Rattle.word.specs.Depth.{Forward, Backward}
 use Rattle.word.specs.Nodes.{on}
 use Rattle.word.specs.Questions.{shared}
 use Rattle.word.proofs.Tests.{true≢false, cond-all, eqb-same, eqb-eq}
 use Rattle.word.proofs.Signed.{zarith, +law, P-neg, N-neg}
 use Rattle.word.proofs.Depth.{eq}
-use Rattle.word.proofs.Bridge.{Span, Under, Chain}
+use Rattle.word.proofs.Bridge.{Span, Chain}
 
 -- ---- whether a place is on a chain
 

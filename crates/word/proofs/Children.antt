@@ -1,13 +1,13 @@
 -- A forest's roots, and so a node's children, are how often D comes back to where their word starts. Assumes nothing.
 use mathlib.Core.Path.{_≡_, refl, sym, ap, ap₂, _∙_}
-use mathlib.Core.Bool.{Bool, true, false, cond}
-use mathlib.Core.List.{List, [], _∷_, _++_}
+use mathlib.Core.Bool.{Bool, false, cond}
+use mathlib.Core.List.{List, _∷_}
 use Prim.Native.Nat.{ℕ, zero, suc, _+_, _≤_, _<_}
 use native.Mathlib.Omega.{arith}
 use lib.ListN.{length, take, drop, length-append}
 use lib.Seq.{drop-append-add}
-use lib.IntN.{ℤ, pos, _+ℤ_}
-use Rattle.word.specs.Forest.{Forest, empty, tree, encode, count, D}
+use lib.IntN.{pos, _+ℤ_}
+use Rattle.word.specs.Forest.{Forest, empty, tree, encode, D}
 use Rattle.word.specs.Signed.{eqZ}
 use Rattle.word.specs.Questions.{roots}
 use Rattle.word.proofs.Signed.{zarith, +law, →eqZ, →neqZ}

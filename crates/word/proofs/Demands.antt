@@ -5,20 +5,19 @@ use mathlib.Core.Logic.{_⊎_, inl, inr, _↔_}
 use mathlib.Core.Bool.{Bool, true, false, cond}
 use mathlib.Core.List.{List, [], _∷_}
 use mathlib.Core.Option.{Option, none, some, Option·none-ne-some}
-use Prim.Native.Nat.{ℕ, zero, suc, _+_, _*_, _≤_, _<_}
+use Prim.Native.Nat.{ℕ, zero, suc, _+_, _≤_, _<_}
 use native.Mathlib.Omega.{arith}
 use native.Mathlib.Decide.{decLe}
-use lib.ListN.{length, drop, getD, getElem?}
-use Rattle.word.specs.Forest.{Forest, encode, D}
+use lib.ListN.{drop, getD, getElem?}
+use Rattle.word.specs.Forest.{Forest, encode}
 use Rattle.word.specs.Nodes.{Node, closing, at, ask, chainOf, chain, on}
 use Rattle.word.specs.Questions.{shared, ancestor, nearest, holds, size, number, branch}
 use Rattle.word.proofs.Tests.{true≢false}
 use Rattle.word.proofs.Signed.{zarith}
 use Rattle.word.proofs.Bits.{opens}
 use Rattle.word.proofs.Depth.{eq, rank, rank-sum, rank-mono, D-law}
-use Rattle.word.proofs.Bridge.{Span}
-use Rattle.word.proofs.Nodes.{At, found-at, node-at, number-rank}
-use Rattle.word.proofs.Chains.{on-here, on-up, on-cases, Up, chain-up, same-chain}
+use Rattle.word.proofs.Nodes.{found-at, node-at, number-rank}
+use Rattle.word.proofs.Chains.{on-here, on-up, on-cases, chain-up, same-chain}
 use Rattle.word.proofs.Answers.{size-length, chain-is, between}
 
 -- ---- the places of a chain
@@ -89,6 +88,7 @@ module _ (f : Forest) where
 
   -- an ancestor's chain is what is left of the chain
   upward : (a j p : ℕ) → ancestor f a j ≡ some p → (chain f p ≡ drop j (chain f a)) × (p ≤ a) × (getD (encode f) p false ≡ true)
+  unfolding ancestor
   upward a j p e = go (at f a) refl
     where
       go : (n : Option Node) → at f a ≡ n → (chain f p ≡ drop j (chain f a)) × (p ≤ a) × (getD (encode f) p false ≡ true)
@@ -106,6 +106,7 @@ module _ (f : Forest) where
 
   -- climbing j and then k ends where climbing j + k ends, or neither way finds a node
   pub climb-climb : (a j k : ℕ) → andThen (ancestor f a j) (λ p. ancestor f p k) ≡ ancestor f a (j + k)
+  unfolding ancestor
   climb-climb a j k = go (ancestor f a j) refl
     where
       go : (o : Option ℕ) → ancestor f a j ≡ o → andThen o (λ p. ancestor f p k) ≡ ancestor f a (j + k)
@@ -121,12 +122,15 @@ module _ (f : Forest) where
   Holds q a = holds f q a ≡ true
 
   holds-self : (a : ℕ) → IsNode a → Holds a a
+  unfolding holds
   holds-self a o = nth-on (chain f a) 0 a (ap (λ l. getElem? l 0) (chain-is f a o))
 
   holds-le : (q a : ℕ) → Holds q a → (q ≤ a) × IsNode q
+  unfolding holds ancestor
   holds-le q a o = let n = on-nth (chain f a) q o in let u = upward a (n .0) q (n .1) in (u .1, u .2)
 
   holds-trans : (q p a : ℕ) → Holds q p → Holds p a → Holds q a
+  unfolding holds ancestor
   holds-trans q p a o h =
       let n = on-nth (chain f a) p h in
       let m = on-nth (chain f p) q o in
@@ -135,12 +139,14 @@ module _ (f : Forest) where
   -- "deepest node whose branch holds both a and b": its branch holds both, and a node whose branch holds both holds it
   pub nearest-deepest : (a b p : ℕ) → nearest f a b ≡ some p
       → (holds f p a ≡ true) × (holds f p b ≡ true) × ((q : ℕ) → holds f q a ≡ true → holds f q b ≡ true → holds f q p ≡ true)
+  unfolding nearest holds ancestor
   nearest-deepest a b p e =
       let s = shared-some (chain f a) (chain f b) p e in
       (nth-on (chain f a) (s .j) p (s .first), s .second, λ q m n. ap (λ l. on l q) (upward a (s .j) p (s .first) .0) ∙ s .deepest q m n)
 
   -- and where there is none, no branch holds both
   pub nearest-no-other : (a b : ℕ) → nearest f a b ≡ none → (q : ℕ) → holds f q a ≡ true → holds f q b ≡ true → ⊥
+  unfolding nearest holds
   nearest-no-other a b e = shared-none (chain f a) (chain f b) e
 
   -- ---- the laws of the nearest shared node. Both sides of each hold the same nodes above them, and so are the same
@@ -211,6 +217,7 @@ module _ (f : Forest) where
 
     -- the openings up to the end of a's branch
     run-ends : (c : ℕ) → closing (node-at f a oa .x) ≡ c → rank true (encode f) (suc c) ≡ i + n
+    unfolding branch
     run-ends c e =
         let x = node-at f a oa in
         let s = x .upward .0 in

@@ -1,5 +1,5 @@
 -- How openings, closings and D run along a word, and that a walk finds at most one boundary. Assumes nothing.
-use mathlib.Core.Path.{_≡_, refl, sym, ap, ap₂, subst, _∙_}
+use mathlib.Core.Path.{_≡_, sym, ap, _∙_}
 use mathlib.Core.Bool.{Bool, true, false, not}
 use mathlib.Core.List.{List, [], _∷_, _++_}
 use Prim.Native.Nat.{ℕ, zero, suc, _+_, _-_, _≤_, _<_}
@@ -7,14 +7,13 @@ use native.Mathlib.Omega.{arith}
 use native.Mathlib.Decide.{decLt}
 use lib.ListN.{length, take, drop, getD}
 use lib.Seq.{take-add, take-append-add, take-length, take-take}
-use lib.IntN.{ℤ, pos, _+ℤ_, _-ℤ_}
-use lib.Signed.{_≤ℤ_, _<ℤ_}
+use lib.IntN.{ℤ, pos, _+ℤ_, _-ℤ_, +ℤ-one, -ℤ-one}
 use Rattle.word.specs.Forest.{count, D}
 use Rattle.word.specs.Signed.{P, N}
-use Rattle.word.specs.Depth.{Forward, NoForward, Backward, NoBackward}
+use Rattle.word.specs.Depth.{Forward, Backward}
 use Rattle.word.proofs.Tests.{true≢false}
 use Rattle.word.proofs.Signed.{zarith, +law, -law}
-use Rattle.word.proofs.Bits.{opens, closes}
+use Rattle.word.proofs.Bits.{D-opens, D-closes}
 
 -- a number written in another way, where `omega` shows that it is the same
 pub eq : (a b : ℕ) → a ≡ b → a ≡ b
@@ -63,6 +62,14 @@ rank-sum (false ∷ w) (suc q) h = omega (arith, rank-sum w q (omega arith))
 pub D-law : (w : List Bool) (p : ℕ) → P (D w p) + rank false w p ≡ N (D w p) + rank true w p
 D-law w p = omega (arith, -law (pos (rank true w p)) (pos (rank false w p)))
 
+-- one bit further
+pub D-up : (w : List Bool) (p : ℕ) → getD w p false ≡ true → D w (suc p) ≡ D w p +ℤ pos 1
+D-up w p o = D-opens w p o ∙ sym (+ℤ-one (D w p))
+
+pub D-down : (w : List Bool) (p : ℕ) → getD w p true ≡ false → D w (suc p) ≡ D w p -ℤ pos 1
+D-down w p o = D-closes w p o ∙ sym (-ℤ-one (D w p))
+
+-- q bits further
 pub D-add : (w : List Bool) (p q : ℕ) → D w (p + q) ≡ D w p +ℤ D (drop p w) q
 D-add w p q = omega (zarith, +law (D w p) (D (drop p w) q), D-law w (p + q), D-law w p, D-law (drop p w) q, rank-add true w p q, rank-add false w p q)
 

@@ -1,5 +1,5 @@
 -- "leftmost boundary from a to b with the least D": what `lowest` gives is that boundary, in any word, and there is one only. Assumes nothing.
-use mathlib.Core.Path.{_≡_, refl, sym, ap, subst}
+use mathlib.Core.Path.{_≡_, refl, subst}
 use mathlib.Core.Bool.{Bool, true, false, cond}
 use mathlib.Core.List.{List}
 use Prim.Native.Nat.{ℕ, zero, suc, _+_, _≤_, _<_}
@@ -8,7 +8,6 @@ use native.Mathlib.Decide.{decLe, decLt}
 use lib.Signed.{ltZ, _≤ℤ_, _<ℤ_}
 use Rattle.word.specs.Forest.{D}
 use Rattle.word.specs.Questions.{lowest}
-use Rattle.word.proofs.Tests.{by-test}
 use Rattle.word.proofs.Signed.{zarith}
 use Rattle.word.proofs.Depth.{eq}
 
@@ -49,6 +48,7 @@ module _ (w : List Bool) (a : ℕ) where
     no-lower h = record { from = l .from; to = omega (arith, l .to); low = reach (λ i. D w r ≤ℤ D w i) (l .low) h; left = l .left }
 
   pub lowest-is : (n : ℕ) → Lowest w a n (lowest w a n)
+  unfolding lowest
   lowest-is zero = record { from = omega arith; to = omega arith; low = λ j p q. subst (λ i. D w a ≤ℤ D w i) (eq a j (omega arith)) (omega zarith); left = λ j p q. absurd (omega arith) }
   lowest-is (suc n) = go (ltZ (D w (a + suc n)) (D w (lowest w a n))) refl (lowest-is n)
     where

@@ -124,12 +124,14 @@ module _ (f : Forest) where
 
   module _ (a : ℕ) (o : getD (encode f) a false ≡ true) where
     pub with-rank : withNumber f (rank true (encode f) a) ≡ some a
+    unfolding withNumber
     with-rank = before-rank (encode f) 0 a (table f) (places-nodes f 0 []) o .1 ∙ ap some (eq (0 + a) a (omega arith))
 
     before-at : before (standsAt a) (table f) ≡ rank true (encode f) a
     before-at = ap (λ n. before (standsAt n) (table f)) (eq a (0 + a) (omega arith)) ∙ before-rank (encode f) 0 a (table f) (places-nodes f 0 []) o .0
 
     pub node-at : At f a
+    unfolding withNumber
     node-at = go (at f a) refl (ap (λ n. ask n (λ x. some (x .place))) (find-nth (standsAt a) (table f) ∙ ap (getElem? (table f)) before-at) ∙ with-rank)
       where
         go : (n : Option Node) → at f a ≡ n → ask (at f a) (λ x. some (x .place)) ≡ some a → At f a
@@ -137,9 +139,11 @@ module _ (f : Forest) where
         go (some x) e h = found-at a x e
 
     pub number-rank : number f a ≡ some (rank true (encode f) a)
+    unfolding number
     number-rank = ap (λ n. ask n (λ x. some (before (standsAt a) (table f)))) (node-at .found) ∙ ap some before-at
 
   pub with-none : (r : ℕ) → count true (encode f) ≤ r → withNumber f r ≡ none
+  unfolding withNumber
   with-none r l = ap (λ n. ask n (λ x. some (x .place))) (nth-past (encode f) 0 r (table f) (places-nodes f 0 []) l)
 
 -- ---- each closing closes a node

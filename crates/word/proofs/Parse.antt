@@ -1,17 +1,16 @@
--- One forest for each balanced word, and a test that finds it. Assumes nothing.
+-- A balanced word has one forest, and reading finds it: parse and encode undo each other. Assumes nothing.
 use mathlib.Core.Path.{_≡_, refl, sym, ap, _∙_}
 use mathlib.Core.Logic.{_↔_}
 use mathlib.Core.Bool.{Bool, true, false}
 use mathlib.Core.List.{List, [], _∷_, _++_, append-assoc, append-nil}
 use mathlib.Core.Option.{Option, none, some}
-use Prim.Native.Nat.{ℕ, zero, suc, _+_}
+use Prim.Native.Nat.{ℕ, _+_}
 use native.Mathlib.Omega.{arith}
-use lib.Dec.{T}
 use lib.ListN.{length}
 use Rattle.word.specs.Forest.{Forest, empty, tree, encode, Balanced}
 use Rattle.word.specs.Parse.{atClosing, atOpening, read, only, parse, isSome, isBalanced, orEmpty, forestOf}
 
--- what stands after the first forest
+-- the word of the forests after the first, with a closing before each
 abbrev after : List Forest → List Bool
 after [] = []
 after (f ∷ s) = false ∷ encode f ++ after s
@@ -26,7 +25,7 @@ pub parse-encode : (f : Forest) → parse (encode f) ≡ some f
 unfolding parse
 parse-encode f = ap parse (sym (append-nil (encode f))) ∙ ap only (read-encode f [] [] refl)
 
--- an opening, or a closing, in front of what has been read
+-- one more bit in front of what has been read
 opened : (t : List Forest) (w : List Bool) (f : Forest) (s : List Forest) → ((g : Forest) (u : List Forest) → t ≡ g ∷ u → w ≡ encode g ++ after u)
     → atOpening t ≡ f ∷ s → true ∷ w ≡ encode f ++ after s
 opened [] w f s ih h = cc
@@ -67,47 +66,15 @@ encode-parse w f h = go (read w) refl h
 pub encode-injective : (f g : Forest) → encode f ≡ encode g → f ≡ g
 encode-injective f g h = let e : some f ≡ some g = sym (parse-encode f) ∙ ap parse h ∙ parse-encode g in cc
 
--- the judge: the running depth never falls below 0, and ends there
-abbrev pub judge : ℕ → List Bool → Bool
-judge zero [] = true
-judge (suc h) [] = false
-judge h (true ∷ w) = judge (suc h) w
-judge zero (false ∷ w) = false
-judge (suc h) (false ∷ w) = judge h w
-
-judge-encode : (f : Forest) (h : ℕ) (w : List Bool) → judge h (encode f ++ w) ≡ judge h w
-judge-encode empty h w = refl
-judge-encode (tree k r) h w =
-    ap (judge (suc h)) (append-assoc (encode k) (false ∷ encode r) w) ∙ judge-encode k (suc h) (false ∷ encode r ++ w) ∙ judge-encode r h w
-
-judge-read : (w : List Bool) (h : ℕ) → judge h w ≡ true → length (read w) ≡ suc h
-judge-read [] zero e = refl
-judge-read [] (suc h) e = cc
-judge-read (true ∷ w) h e = go (read w) (judge-read w (suc h) e)
-  where
-    go : (t : List Forest) → length t ≡ suc (suc h) → length (atOpening t) ≡ suc h
-    go [] l = omega arith
-    go (f ∷ []) l = omega arith
-    go (f ∷ (g ∷ s)) l = omega arith
-judge-read (false ∷ w) zero e = cc
-judge-read (false ∷ w) (suc h) e = go (read w) (judge-read w h e)
-  where
-    go : (t : List Forest) → length t ≡ suc h → length (atClosing t) ≡ suc (suc h)
-    go [] l = omega arith
-    go (f ∷ s) l = omega arith
-
--- the running depth never falls below 0 and ends at 0 exactly where the word is balanced
-pub judge-sound : (w : List Bool) → judge zero w ≡ true → Balanced w
+-- where the reading leaves one forest, that forest encodes to the word
+pub one-left : (w : List Bool) → length (read w) ≡ 1 → Balanced w
 unfolding parse
-judge-sound w e = go (read w) refl (judge-read w zero e)
+one-left w l = go (read w) refl l
   where
     go : (t : List Forest) → read w ≡ t → length t ≡ 1 → Balanced w
     go [] r l = absurd (omega arith)
     go (f ∷ []) r l = (f, encode-parse w f (ap only r))
     go (f ∷ (g ∷ s)) r l = absurd (omega arith)
-
-pub judge-complete : (w : List Bool) → Balanced w → judge zero w ≡ true
-judge-complete w b = ap (judge zero) (sym (b .1) ∙ sym (append-nil (encode (b .0)))) ∙ judge-encode (b .0) zero []
 
 -- parse and encode undo each other
 pub parse-iff : (w : List Bool) (f : Forest) → (parse w ≡ some f) ↔ (encode f ≡ w)

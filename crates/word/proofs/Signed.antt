@@ -1,14 +1,14 @@
 -- Linear arithmetic on ℤ through `omega`.
 use mathlib.Core.Path.{_≡_, refl, sym, _∙_, ap, subst}
 use mathlib.Core.Bool.{Bool, true, false, not, cond}
-use Prim.Native.Nat.{ℕ, zero, suc, _+_, _-_, _*_, _<_, _≤_, _^_, min, max}
+use Prim.Native.Nat.{ℕ, zero, suc, _+_, _-_, _<_, _≤_, min, max}
 use native.Mathlib.Omega.{arith}
 use mathlib.Core.Logic.{_≢_}
-use lib.Dec.{T, eqb, eqb-refl, eqb→eq, ltb, leb, ltb→lt, nltb→le, leb→le, le→leb, lt→ltb, nleb→lt}
+use lib.Dec.{T, eqb, eqb-refl, eqb→eq, ltb, ltb→lt, nltb→le, leb→le, le→leb, lt→ltb, nleb→lt}
 use lib.IntN.{ℤ, pos, negsuc, _+ℤ_, _-ℤ_, negℤ, subℕ, natAbs}
 use lib.Signed.{_≤ℤ_, _<ℤ_, leZ, ltZ, leZ-yes, ltZ-yes, ltZ-no, mag, nonNeg}
-use mir.Syntax.{Width, w32}
-use mir.Val.{SFits, hbits, toZ, ofZ}
+use mir.Syntax.{w32}
+use mir.Val.{SFits, toZ, ofZ}
 use mir.Facts.{toZ-ofZ}
 use Rattle.word.specs.Signed.{P, N, minZ, maxZ, eqZ}
 pub use Rattle.word.proofs.Tests.{T-true, true-T, true≢false, not-true, by-test}

@@ -11,15 +11,17 @@ pub data Forest : Type 0 where
   empty : Forest
   tree : Forest → Forest → Forest
 
--- "A balanced word is empty, or an opening, a balanced word, a closing, and a balanced word. It encodes an ordered forest"
+-- "A balanced word is empty, or an opening, a balanced word, a closing, and a balanced word. It encodes an ordered forest": the kids' word
+-- stands between a root's two bits, the rest's after them
 abbrev pub encode : Forest → List Bool
 encode empty = []
 encode (tree kids rest) = true ∷ encode kids ++ false ∷ encode rest
 
+-- a word is balanced where a forest encodes to it
 abbrev pub Balanced : List Bool → Type 0
 Balanced w = (f : Forest) × (encode f ≡ w)
 
--- how many openings (true) or closings (false) a row has
+-- how many openings (true) or closings (false) a word has
 abbrev pub count : Bool → List Bool → ℕ
 count b [] = zero
 count true (true ∷ w) = suc (count true w)
