@@ -107,7 +107,7 @@ module _ (w : List Bool) (balanced : isBalanced w ≡ true) where
     up b l (some p) e = answers.ancestor-by f a opens′ b p l (of (λ u. Backward u a (negℤ (pos b)) p) (backward-some h w (height-reaches (length w)) a (negℤ (pos b)) (omega (arith, inside)) p e))
 
     pub parent-is : (r : Reach) → backward h w a (negsuc 0) ≡ r → answer (found (r .0)) (r .1) ≡ answerTo w (Parent a)
-    unfolding replyOf readsOf
+    unfolding replyOf readsOf parent
     parent-is r e = answer-is w (Parent a) (found (r .0)) (r .1) (ap found (up 1 (omega arith) (r .0) (ap (λ (x : Reach). x .0) e))) (ap (λ (x : Reach). x .1) e)
 
     pub ancestor-is : (b : ℕ) → (b ≡ 0 → ⊥) → (r : Reach) → backward h w a (negℤ (pos b)) ≡ r → answer (found (r .0)) (r .1) ≡ answerTo w (Ancestor a b)

@@ -1,5 +1,6 @@
 pub mod Answers
 pub mod Checks
+pub mod Demands
 pub mod Least
 pub mod Marked
 pub mod Ranges

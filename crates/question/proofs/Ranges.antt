@@ -215,5 +215,5 @@ module _ (w : List Bool) (balanced : isBalanced w ≡ true) where
   nearest-itself a o = answer-is w (Nearest a a) (gives a) 0 (ap found (nearest-self f a (of (λ u. getD u a false ≡ true) o))) (rw (eq-eqb a a refl))
 
   pub lowest-itself : (a : ℕ) → answer (gives a) 0 ≡ answerTo w (Lowest a a)
-  unfolding replyOf readsOf
+  unfolding replyOf readsOf lowest
   lowest-itself a = answer-is w (Lowest a a) (gives a) 0 (ap (λ i. gives (lowest w a i)) (let z : a - a ≡ 0 = omega arith in z)) (rw (eq-eqb a a refl))
