@@ -69,11 +69,15 @@ module _ (f : Forest) (a : ℕ) (o : getD (encode f) a false ≡ true) where
   unfolding depth
   depth-by d e = asked (λ x. some (length (x .above))) ∙ ap some (omega (zarith, n .upward .0 .before))
 
+  -- openings less closings, and openings and closings together
+  twice-number : pos (2 * count true (take a (encode f))) ≡ pos a +ℤ D (encode f) a
+  twice-number = omega (zarith, rank-sum (encode f) a (omega (arith, bit-in (encode f) a false o)), D-law (encode f) a, +law (pos a) (D (encode f) a))
+
   pub number-by : (r : ℕ) → pos (2 * r) ≡ pos a +ℤ D (encode f) a → number f a ≡ some r
-  number-by r e = number-rank f a o ∙ ap some (omega (zarith, rank-sum (encode f) a (omega (arith, bit-in (encode f) a false o)), D-law (encode f) a, +law (pos a) (D (encode f) a)))
+  number-by r e = number-rank f a o ∙ ap some (omega (zarith, twice-number))
 
   pub number-half : number f a ≡ some (P (pos a +ℤ D (encode f) a) / 2)
-  number-half = number-rank f a o ∙ ap some (omega (zarith, parts (pos a +ℤ D (encode f) a), rank-sum (encode f) a (omega (arith, bit-in (encode f) a false o)), D-law (encode f) a, +law (pos a) (D (encode f) a)))
+  number-half = number-rank f a o ∙ ap some (omega (arith, ap P twice-number))
 
   pub withNumber-by : (r : ℕ) → count true (take a (encode f)) ≡ r → withNumber f r ≡ some a
   withNumber-by r e = ap (withNumber f) (sym e) ∙ with-rank f a o

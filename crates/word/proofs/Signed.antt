@@ -1,4 +1,5 @@
--- Linear arithmetic on ℤ through `omega`.
+-- The signed kit: `omega zarith` reads every ≤ℤ, <ℤ, ≡ and test of signed numbers in scope and in the goal, by their two parts. A sum, a
+-- difference, a smaller or larger of two is listed by its law: `omega (zarith, +law a b)`. Worked uses: SignedUses.antt.
 use mathlib.Core.Path.{_≡_, refl, sym, _∙_, ap, subst}
 use mathlib.Core.Bool.{Bool, true, false, not, cond}
 use Prim.Native.Nat.{ℕ, zero, suc, _+_, _-_, _<_, _≤_, min, max}

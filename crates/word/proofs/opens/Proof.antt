@@ -1,3 +1,4 @@
+-- Reading one parenthesis: a byte shifted by i mod 8 and masked by 1 is the bit of weight 2^(i mod 8).
 use borrow.Author.Needs.{needs}
 use mathlib.Core.Path.{ap}
 use lib.Bits.{and-mask}
