@@ -4,3 +4,4 @@ pub mod Demands
 pub mod Least
 pub mod Marked
 pub mod Ranges
+pub mod Sound
