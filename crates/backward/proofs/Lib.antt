@@ -1,0 +1,6 @@
+pub mod Climb
+pub mod Descent
+pub mod Final
+pub mod Room
+pub mod Scan
+pub mod Whole
