@@ -29,6 +29,9 @@ module _ (idx : List ℤ) (l k : ℕ) (t : ℤ) (n : ℕ) where
       let b : leb l k ≡ false = not-true (leb l k) (λ y. omega (zarith, leb→le l k (true-T y))) in
       by-test (hitBack (entryAt idx (2 * k + 1)) t) (λ y. rw (e, b, y)) (λ y. rw (e, b, y))
 
+pub deeper : (w u : Walk) (s : Seen) → 0 < w .entry → u ≡ down w s → w .entry < u .entry
+deeper w u s h e = by-test (hitBack (s .summary) (w .want)) (λ y. rw (e, y) (omega zarith)) (λ y. rw (e, y) (omega zarith))
+
 module _ (idx : List ℤ) (l : ℕ) (v w : Walk) (c : Sinking (descentOf idx l) l v w) where
   pub reached : l ≤ w .entry → Reached idx l v w
   reached h = record {

@@ -108,6 +108,3 @@ module _ {A : Type 0} (run : ℕ → Walk → A) (l : ℕ) (v : Walk) where
         count = omega (arith, e .child, e .reads, c .count, c .above);
         left = λ n h. under-on u e n (c .left n h);
       }
-
-      pub further : (u : Walk) → Down run w u → w .entry < u .entry
-      further u e = omega (arith, e .child, c .above)
