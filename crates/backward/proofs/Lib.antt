@@ -1,5 +1,6 @@
 pub mod Climb
 pub mod Descent
+pub mod Ends
 pub mod Final
 pub mod Room
 pub mod Scan

@@ -1,4 +1,5 @@
--- The scan down, bit by bit: what one turn of its loop does, and what its result says of a stretch of the word.
+-- The scan down, bit by bit: what one turn of its loop does.
+-- The bits between two boundaries are taken from their end.
 use mathlib.Core.Path.{_≡_, refl, sym, ap, _∙_}
 use mathlib.Core.Bool.{Bool, true, false, cond}
 use mathlib.Core.List.{List, [], _∷_}
@@ -78,43 +79,3 @@ module _ (bytes : List ℕ) (from i : ℕ) (t r : ℤ) (b : Bool) (l : from < i)
 
 pub turn-met : (bytes : List ℕ) (from i : ℕ) (t : ℤ) → from < i → eqZ t (pos 0) ≡ true → Met i ≡ scanDown bytes from (i - from) t
 turn-met bytes from i t l z = ap Met (let e : i ≡ from + (i - from) = omega zarith in e) ∙ sym (scan-met bytes from (i - from - 1) (i - from) t (omega zarith) z)
-
--- ---- what the result says
-scanned-met : (o : Option ℕ) (u : ℤ) (q : ℕ) → scanned o u ≡ Met q → o ≡ some q
-scanned-met none u q e = let z : _≡_ {A = ℕ} 0 1 = cc in absurd (omega arith)
-scanned-met (some p) u q e = cc
-
-scanned-left : (o : Option ℕ) (u v : ℤ) → scanned o u ≡ Left v → (o ≡ none) × (v ≡ u)
-scanned-left none u v e = (refl, cc)
-scanned-left (some p) u v e = let z : _≡_ {A = ℕ} 0 1 = cc in absurd (omega arith)
-
--- a stretch x of the word that is n bits from bit i
-module _ (bytes : List ℕ) (i n : ℕ) (x : List Bool) (t : ℤ) (s : Scan) (e : x ≡ bits bytes i n) (r : s ≡ scanDown bytes i n t) where
-  scan-is : s ≡ scanned (final i x (t +ℤ depthOf x)) (t +ℤ depthOf x)
-  unfolding scanDown
-  scan-is = r ∙ rw e
-
-  pub met : (q : ℕ) → s ≡ Met q → final i x (t +ℤ depthOf x) ≡ some q
-  met q y = scanned-met (final i x (t +ℤ depthOf x)) (t +ℤ depthOf x) q (sym scan-is ∙ y)
-
-  pub left : (u : ℤ) → s ≡ Left u → (final i x (t +ℤ depthOf x) ≡ none) × (u ≡ t +ℤ depthOf x)
-  left u y = scanned-left (final i x (t +ℤ depthOf x)) (t +ℤ depthOf x) u (sym scan-is ∙ y)
-
--- ---- the two stretches that are scanned: a leaf's block, and the first block's bits before bit p
-pub block-is : (bytes : List ℕ) (m b to : ℕ) → to ≡ min (256 * (b + 1)) m → 256 * b < m → block (word bytes m) b ≡ bits bytes (256 * b) (to - 256 * b)
-block-is bytes m b to e l = part-bits bytes m (256 * b) 256 ∙ ap (bits bytes (256 * b)) (let d : min 256 (m - 256 * b) ≡ to - 256 * b = omega arith in d)
-
-pub block-none : (bytes : List ℕ) (m b : ℕ) (t : ℤ) → m ≤ 256 * b → final (256 * b) (block (word bytes m) b) t ≡ none
-block-none bytes m b t l = let d : min 256 (m - 256 * b) ≡ 0 = omega arith in rw (part-bits bytes m (256 * b) 256, d, final-nil)
-
-module _ (bytes : List ℕ) (m p : ℕ) (l : p < m) where
-  pub behind-is : behind (word bytes m) p ≡ bits bytes (256 * (p / 256)) (p - 256 * (p / 256))
-  behind-is = part-bits bytes m (256 * (p / 256)) (p % 256) ∙ ap (bits bytes (256 * (p / 256))) (let d : min (p % 256) (m - 256 * (p / 256)) ≡ p - 256 * (p / 256) = omega arith in d)
-
-  pub from-start : (t : ℤ) → (t +ℤ step (bit bytes p)) +ℤ depthOf (behind (word bytes m) p) ≡ fromStart (word bytes m) p t
-  from-start t =
-      let s : ℕ = 256 * (p / 256) in
-      let a : min (suc (p % 256)) (m - s) ≡ suc (p % 256) = omega arith in
-      let b : min (p % 256) (m - s) ≡ p % 256 = omega arith in
-      let c : s + p % 256 ≡ p = omega arith in
-      rw (part-bits bytes m s (suc (p % 256)), part-bits bytes m s (p % 256), a, b, one-more bytes s (p % 256) (suc (p % 256)) t refl, c)

@@ -1,46 +1,39 @@
+-- `leaf_back` meets its contract.
 use borrow.Author.Needs.{needs}
+use Rattle.backward.proofs.Ends.{past-word, leaf-met, leaf-left}
 use Rattle.backward.proofs.leaf_back.Statement.{statement}
 use Rattle.backward.proofs.leaf_back.Tie as tie
-use Rattle.backward.proofs.leaf_back.Reads as reads
-use Rattle.backward.proofs.leaf_back.Lts as lts
-use Rattle.backward.proofs.scan_down.Reads as scan-down-reads
-use Rattle.walk.proofs.end_of.Reads as end-of-reads
 
--- src/lib.rt:125:13
 sub-b : tie.Need-sub-b
 sub-b c = search needs
 
--- src/lib.rt:126:16
 mul-from : tie.Need-mul-from
 mul-from c = search needs
 
--- src/lib.rt:129:9
 returns : tie.Need-returns
-returns c = ?
+returns c = let s = c .before .before .args in past-word (s .bytes .now) (s .m) (s .l) (s .w) (c .if1 .taken)
 
--- src/lib.rt:131:9
 end-of-requires : tie.Need-end-of-requires
 end-of-requires c κs = search needs
 
--- src/lib.rt:132:9
 scan-down-requires : tie.Need-scan-down-requires
 scan-down-requires c κs = search needs
 
--- src/lib.rt:134:19
 enum-known-s : tie.Need-enum-known-s
 enum-known-s c = search needs
 
--- src/lib.rt:135:26
 enum-told : tie.Need-enum-told
 enum-told c = search needs
 
--- src/lib.rt:120:1
 returns-2 : tie.Need-returns-2
-returns-2 c = ?
+returns-2 c = let f = c .before .before .before in let e = f .before .before in let s = e .before .before .before .args in
+    leaf-met (s .bytes .now) (s .m) (s .l) (s .w) (e .end-of .result) (f .scan-down .result) (e .before .if1 .left) (e .end-of .ensures) (f .before .struct-told .given .1 .0 .1)
+    (f .scan-down .ensures) _ (c .before .s .given .1)
 
--- src/lib.rt:120:1
 returns-3 : tie.Need-returns-3
-returns-3 c = ?
+returns-3 c = let f = c .before .before in let e = f .before .before in let s = e .before .before .before .args in
+    leaf-left (s .bytes .now) (s .m) (s .l) (s .w) (e .end-of .result) (f .scan-down .result) (e .before .if1 .left) (e .end-of .ensures) (f .before .struct-told .given .1 .0 .1)
+    (f .scan-down .ensures) _ (c .enum-told .given .1)
 
 pub leaf-back-spec : {M : Type 1} → statement M
 leaf-back-spec =
