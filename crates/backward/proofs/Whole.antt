@@ -9,25 +9,35 @@ use native.Mathlib.Nat.{two-pow-succ, mul-le-mul-right}
 use lib.Dec.{eqb, leb}
 use lib.ListN.{length, take, drop, length-take}
 use lib.IntN.{ℤ, pos, _+ℤ_, natAbs}
+use lib.Signed.{mag}
+use mir.Syntax.{w64}
+use mir.Val.{SFits}
+use mir.Facts.{toZ-ofZ}
 use Rattle.word.specs.Signed.{eqZ}
-use Rattle.word.specs.Bits.{word}
+use Rattle.word.specs.Bits.{bit, word}
 use Rattle.word.proofs.Signed.{by-test, zarith, abs-law, parts, +law}
 use Rattle.summary.specs.declared.Summary.{Summary}
-use Rattle.summary.specs.Stretch.{depthOf}
+use Rattle.summary.specs.Stretch.{step, depthOf}
 use Rattle.summary.proofs.Bounds.{depth-within}
 use Rattle.index.specs.Shape.{height, entry, even}
 use Rattle.index.specs.Lent.{entryAt}
 use Rattle.index.proofs.Height.{height-reaches, leaves-few}
 use Rattle.index.proofs.Level.{leb-no}
 use Rattle.walk.specs.declared.Walk.{Walk}
+use Rattle.walk.specs.declared.Scan.{Scan}
+use Rattle.walk.specs.declared.Scan.the-variants.{Met, Left}
 use Rattle.walk.specs.declared.Climb.{Climb}
 use Rattle.walk.specs.declared.Climb.the-variants.{Enter, Top}
 use Rattle.walk.specs.Walk.{Reach, walk}
 use Rattle.walk.specs.Scan.{final, behind}
 use Rattle.walk.specs.Lent.{Lent}
 use Rattle.walk.specs.Backward.{climbBack, descendBack, leafBack, landedBack, fromStart, backward}
-use Rattle.backward.specs.Steps.{beyond}
+use Rattle.walk.proofs.Signed64.{wb}
+use Rattle.walk.proofs.Machine.{back64}
+use Rattle.backward.specs.Steps.{beyond, scanDown}
 use Rattle.backward.specs.Held.{Ready, Standing, Climbed, Entering, Reached}
+use Rattle.backward.proofs.Scan.{step-near}
+use Rattle.backward.proofs.Ends.{near-met, near-left}
 
 -- two ways to read the entries that agree below 2l give the same walk
 module _ (e d : ℕ → Summary) (l : ℕ) (same : (k : ℕ) → k < 2 * l → e k ≡ d k) where
@@ -96,27 +106,48 @@ module _ (bytes : List ℕ) (idx : List ℤ) (m l : ℕ) (v : Walk) (lent : Lent
         entered = rw reached-is (rw (lent .leaves) (ap (landedBack (height m) (word bytes m)) (sym e ∙ climbed-is)))
 
 -- ---- the first block
-start-near : (t : ℤ) (x : List Bool) (a b : ℕ) → natAbs t ≤ a → length x ≤ b → natAbs (t +ℤ depthOf x) ≤ a + b
-start-near t x a b h l = omega (zarith, abs-law t, abs-law (t +ℤ depthOf x), parts (t +ℤ depthOf x), +law t (depthOf x), depth-within x)
-
-module _ (bytes : List ℕ) (idx : List ℤ) (m l p : ℕ) (t : ℤ) (lent : Lent bytes idx m l) (b : p < m) (small : natAbs t ≤ 8589934592) where
-  pub begin : (u : ℤ) → u ≡ fromStart (word bytes m) p t → Ready l (walk (l + p / 256) u 0)
-  begin u e = record {
-    leaf = omega arith;
-    inside = omega (arith, height-reaches m, lent .leaves);
-    want = rw e (omega (arith, start-near t (take (suc (p % 256)) (drop (256 * (p / 256)) (word bytes m))) 8589934592 256 small (omega (arith, length-take (suc (p % 256)) (drop (256 * (p / 256)) (word bytes m))))));
-    reads = refl;
-  }
-
-  pub found-near : (q : ℕ) → final (256 * (p / 256)) (behind (word bytes m) p) (fromStart (word bytes m) p t) ≡ some q → (some q, 0) ≡ backward (height m) (word bytes m) (suc p) t
-  unfolding backward
-  found-near q e = rw e
-
-  pub found-far : (u : ℤ) → final (256 * (p / 256)) (behind (word bytes m) p) (fromStart (word bytes m) p t) ≡ none → u ≡ fromStart (word bytes m) p t
-      → beyond (height m) (word bytes m) (walk (l + p / 256) u 0) ≡ backward (height m) (word bytes m) (suc p) t
-  unfolding backward
-  found-far u e d = rw (e, d, lent .leaves)
-
 pub none-before : (h : ℕ) (w : List Bool) (p : ℕ) (t : ℤ) → p ≡ 0 → (none, 0) ≡ backward h w p t
 unfolding backward
 none-before h w p t e = rw e
+
+near-block : (h : ℕ) (w : List Bool) (p q : ℕ) (t : ℤ) (r : ℕ) → p ≡ suc q → final (256 * (q / 256)) (behind w q) (fromStart w q t) ≡ some r → (some r, 0) ≡ backward h w p t
+unfolding backward
+near-block h w p q t r e f = rw (e, f)
+
+past-block : (h : ℕ) (w : List Bool) (p q : ℕ) (t : ℤ) → p ≡ suc q → final (256 * (q / 256)) (behind w q) (fromStart w q t) ≡ none → beyond h w (walk (2 ^ h + q / 256) (fromStart w q t) 0) ≡ backward h w p t
+unfolding backward
+past-block h w p q t e f = rw (e, f)
+
+start-near : (t : ℤ) (x : List Bool) (a b : ℕ) → natAbs t ≤ a → length x ≤ b → natAbs (t +ℤ depthOf x) ≤ a + b
+start-near t x a b h l = omega (zarith, abs-law t, abs-law (t +ℤ depthOf x), parts (t +ℤ depthOf x), +law t (depthOf x), depth-within x)
+
+module _ (bytes : List ℕ) (idx : List ℤ) (m l p : ℕ) (t : ℤ) (lent : Lent bytes idx m l) (b : p ≤ m) (z : p ≡ 0 → ⊥) (small : natAbs t ≤ 8589934592) where
+  begin : (u : ℤ) → u ≡ fromStart (word bytes m) (p - 1) t → Ready l (walk (l + (p - 1) / 256) u 0)
+  begin u e = let q : ℕ = p - 1 in record {
+    leaf = omega arith;
+    inside = omega (arith, height-reaches m, lent .leaves);
+    want = rw e (omega (arith, start-near t (take (suc (q % 256)) (drop (256 * (q / 256)) (word bytes m))) 8589934592 256 small (omega (arith, length-take (suc (q % 256)) (drop (256 * (q / 256)) (word bytes m))))));
+    reads = refl;
+  }
+
+  -- one bit is stepped over first: `o` is bit p - 1, and `u` is wanted from boundary p - 1
+  module _ (o : Bool) (u : ℤ) (f : SFits w64 t) (e : o ≡ bit bytes (p - 1)) (g : mag u < 9223372036854775808) (d : u ≡ wb t +ℤ step o) where
+    stepped : u ≡ t +ℤ step (bit bytes (p - 1))
+    stepped = d ∙ rw (toZ-ofZ f, e)
+
+    pub stepped-near : natAbs (wb u) ≤ 1152921504606846976
+    stepped-near = rw (back64 u g, stepped) (omega (arith, step-near t (bit bytes (p - 1)) 8589934592 small))
+
+    module _ (s : Scan) (r : s ≡ scanDown bytes (256 * ((p - 1) / 256)) (p - 1 - 256 * ((p - 1) / 256)) (wb u)) where
+      pub found-near : (q : ℕ) → s ≡ Met q → (some q, 0) ≡ backward (height m) (word bytes m) p t
+      found-near q y = near-block (height m) (word bytes m) p (p - 1) t q (omega arith) (near-met bytes m (p - 1) t u s (omega arith) g stepped r q y)
+
+      module _ (v : ℤ) (y : s ≡ Left v) (k : mag v < 9223372036854775808) where
+        still : (final (256 * ((p - 1) / 256)) (behind (word bytes m) (p - 1)) (fromStart (word bytes m) (p - 1) t) ≡ none) × (wb v ≡ fromStart (word bytes m) (p - 1) t)
+        still = let n = near-left bytes m (p - 1) t u s (omega arith) g stepped r v y in (n .0, back64 v k ∙ n .1)
+
+        pub ready : Ready l (walk (l + (p - 1) / 256) (wb v) 0)
+        ready = begin (wb v) (still .1)
+
+        pub found-far : beyond (height m) (word bytes m) (walk (l + (p - 1) / 256) (wb v) 0) ≡ backward (height m) (word bytes m) p t
+        found-far = rw (still .1, lent .leaves) (past-block (height m) (word bytes m) p (p - 1) t (omega arith) (still .0))

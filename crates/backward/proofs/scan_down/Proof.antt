@@ -51,9 +51,9 @@ loop-again c = let a = c .before .before .before .before .before in let s = a .b
       omega zarith,
       omega zarith,
       rw (← m) (turn-near (s .args .bytes .now) (s .args .from) (a .loop .i) (toZ w64 (a .loop .t)) (c .earlier .result) (c .before .opens .result)
-      l (c .earlier .ok) (c .before .opens .ensures) (c .earlier .ensures) _ (a .loop .inv .2)),
+          l (c .earlier .ok) (c .before .opens .ensures) (c .earlier .ensures) _ (a .loop .inv .2)),
       turn-next (s .args .bytes .now) (s .args .from) (a .loop .i) (toZ w64 (a .loop .t)) (c .earlier .result) (c .before .opens .result)
-      l (c .earlier .ok) (c .before .opens .ensures) (c .earlier .ensures) (sym (c .before .before .before .zero .ensures) ∙ c .before .before .if1 .left) ∙ a .loop .inv .3,
+          l (c .earlier .ok) (c .before .opens .ensures) (c .earlier .ensures) (sym (c .before .before .before .zero .ensures) ∙ c .before .before .if1 .left) ∙ a .loop .inv .3,
     )
 
 returns-2 : tie.Need-returns-2 Inv-loop μ-loop
