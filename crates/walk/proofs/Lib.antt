@@ -1,2 +1,13 @@
+pub mod Amounts
+pub mod Backward
+pub mod Final
+pub mod First
+pub mod Forward
+pub mod Hit
 pub mod Machine
+pub mod Options
+pub mod Places
+pub mod Prefix
+pub mod Range
+pub mod Select
 pub mod Signed64

@@ -1,84 +1,71 @@
--- Kind 9 by its range: the boundaries from a + 2 to a's closing that are one deeper than a, which is the least depth there. Assumes nothing.
-use mathlib.Core.Path.{_≡_, refl, sym, ap, ap₂, subst, _∙_}
+-- A forest's roots, and so a node's children, are how often D comes back to where their word starts. Assumes nothing.
+use mathlib.Core.Path.{_≡_, refl, sym, ap, ap₂, _∙_}
 use mathlib.Core.Bool.{Bool, true, false, cond}
-use mathlib.Core.List.{List, [], _∷_, _++_, append-nil}
-use mathlib.Core.Option.{Option, none, some}
-use Prim.Native.Nat.{ℕ, zero, suc, pred, _+_, _-_, _≤_, _<_}
+use mathlib.Core.List.{List, [], _∷_, _++_}
+use Prim.Native.Nat.{ℕ, zero, suc, _+_, _≤_, _<_}
 use native.Mathlib.Omega.{arith}
-use lib.Dec.{eqb, eqb·suc-suc}
-use lib.ListN.{length, take, drop, getD, length-append}
-use lib.Seq.{take-take}
-use native.Mathlib.Decide.{ℕ-discrete}
-use Rattle.word.proofs.Bits.{opens}
-use Rattle.word.specs.Forest.{Forest, encode, count}
-use Rattle.word.specs.Nodes.{Node, closing, ask}
-use Rattle.word.specs.Questions.{children, roots}
-use Rattle.word.proofs.Bridge.{rank, rank-add, above, eq}
-use Rattle.word.proofs.Lines.{height, Next, eqb-same}
-use Rattle.word.proofs.Number.{node-at, eqb-ne}
-use Rattle.word.proofs.ByDepth.{zeros, zeros-roots, returns}
+use lib.ListN.{length, take, drop, length-append}
+use lib.Seq.{drop-append-add}
+use lib.IntN.{ℤ, pos, _+ℤ_}
+use Rattle.word.specs.Forest.{Forest, empty, tree, encode, count, D}
+use Rattle.word.specs.Signed.{eqZ}
+use Rattle.word.specs.Questions.{roots}
+use Rattle.word.proofs.Signed.{zarith, +law, →eqZ, →neqZ}
+use Rattle.word.proofs.Tests.{same-test}
+use Rattle.word.proofs.Depth.{eq, D-add, D-part}
+use Rattle.word.proofs.Bridge.{Span, bridge}
 
 -- how many of 1 to n pass
 abbrev pub tally : (ℕ → Bool) → ℕ → ℕ
 tally t zero = zero
-tally t (suc n) = cond (t 1) 1 0 + tally (λ q. t (suc q)) n
+tally t (suc n) = cond (t 1) 1 0 + tally (λ j. t (suc j)) n
 
-tally-ext : (t u : ℕ → Bool) (n : ℕ) → ((q : ℕ) → 0 < q → q ≤ n → t q ≡ u q) → tally t n ≡ tally u n
+pub tally-ext : (t u : ℕ → Bool) (n : ℕ) → ((j : ℕ) → 0 < j → j ≤ n → t j ≡ u j) → tally t n ≡ tally u n
 tally-ext t u zero h = refl
-tally-ext t u (suc n) h = ap₂ (λ b m. cond b 1 0 + m) (h 1 (omega arith) (omega arith)) (tally-ext (λ q. t (suc q)) (λ q. u (suc q)) n (λ q l k. h (suc q) (omega arith) (omega arith)))
+tally-ext t u (suc n) h = ap₂ (λ b m. cond b 1 0 + m) (h 1 (omega arith) (omega arith)) (tally-ext (λ j. t (suc j)) (λ j. u (suc j)) n (λ j l k. h (suc j) (omega arith) (omega arith)))
 
-abbrev level : ℕ → List Bool → ℕ → Bool
-level h w q = eqb (h + rank true w q) (rank false w q)
+tally-add : (t : ℕ → Bool) (m n : ℕ) → tally t (m + n) ≡ tally t m + tally (λ j. t (m + j)) n
+tally-add t zero n = omega (arith, ap (tally t) (eq (0 + n) n (omega arith)) ∙ tally-ext t (λ j. t (0 + j)) n (λ j l k. ap t (eq j (0 + j) (omega arith))))
+tally-add t (suc m) n =
+    ap (tally t) (eq (suc m + n) (suc (m + n)) (omega arith))
+    ∙ omega (arith, tally-add (λ j. t (suc j)) m n, tally-ext (λ j. t (suc (m + j))) (λ j. t (suc m + j)) n (λ j l k. ap t (eq (suc (m + j)) (suc m + j) (omega arith))))
 
-missed : (t : ℕ → Bool) (n : ℕ) → t 1 ≡ false → tally (λ q. t (suc q)) n ≡ tally t (suc n)
-missed t n e = omega (arith, ap {B = ℕ} (λ b. cond b 1 0) e)
+tally-none : (t : ℕ → Bool) (n : ℕ) → ((j : ℕ) → 0 < j → j ≤ n → t j ≡ false) → tally t n ≡ 0
+tally-none t zero h = refl
+tally-none t (suc n) h = omega (arith, ap {B = ℕ} (λ b. cond b 1 0) (h 1 (omega arith) (omega arith)), tally-none (λ j. t (suc j)) n (λ j l k. h (suc j) (omega arith) (omega arith)))
 
--- one closing on: the level is one less
-lower : (h : ℕ) (w : List Bool) (q : ℕ) → level h w q ≡ level (suc h) (false ∷ w) (suc q)
-lower h w q = sym (ap (λ n. eqb n (suc (rank false w q))) (eq (suc h + rank true w q) (suc (h + rank true w q)) (omega arith)) ∙ eqb·suc-suc (h + rank true w q) (rank false w q))
+-- how many boundaries of a forest's word, after the first, have D = 0
+abbrev atZero : List Bool → ℕ → Bool
+atZero w j = eqZ (D w j) (pos 0)
 
-zeros-tally : (w : List Bool) (h : ℕ) → ((p : ℕ) → p ≤ length w → rank false w p ≤ h + rank true w p) → zeros h w ≡ tally (level h w) (length w)
-zeros-tally [] h low = refl
-zeros-tally (true ∷ w) h low =
-    zeros-tally w (suc h) (λ p l. omega (arith, low (suc p) (omega arith)))
-    ∙ tally-ext (level (suc h) w) (λ q. level h (true ∷ w) (suc q)) (length w) (λ q l k. ap (λ n. eqb n (rank false w q)) (eq (suc h + rank true w q) (h + suc (rank true w q)) (omega arith)))
-    ∙ missed (level h (true ∷ w)) (length w) (eqb-ne (h + 1) 0 (omega arith))
-zeros-tally (false ∷ w) zero low = absurd (omega (arith, low 1 (omega arith)))
-zeros-tally (false ∷ w) (suc zero) low =
-    omega (arith, zeros-tally w 0 (λ p l. omega (arith, low (suc p) (omega arith))) ∙ tally-ext (level 0 w) (λ q. level 1 (false ∷ w) (suc q)) (length w) (λ q l k. lower 0 w q))
-zeros-tally (false ∷ w) (suc (suc h)) low =
-    zeros-tally w (suc h) (λ p l. omega (arith, low (suc p) (omega arith)))
-    ∙ tally-ext (level (suc h) w) (λ q. level (suc (suc h)) (false ∷ w) (suc q)) (length w) (λ q l k. lower (suc h) w q)
-    ∙ missed (level (suc (suc h)) (false ∷ w)) (length w) (eqb-ne (suc (suc h) + 0) 1 (omega arith))
+-- the first tree's word is e + 1 long, and only its last boundary is at 0
+roots-tree : (w v : List Bool) (e : ℕ) → Span w 0 e 0 → drop (suc e) w ≡ v → (n : ℕ) → tally (atZero w) (suc e + n) ≡ suc (tally (atZero v) n)
+roots-tree w v e s d n = omega (
+  arith,
+  tally-add (atZero w) (suc e) n,
+  ap (tally (atZero w)) (eq (suc e) (e + 1) (omega arith)) ∙ tally-add (atZero w) e 1,
+  tally-none (atZero w) e (λ j l k. →neqZ (D w j) (pos 0) (λ i. omega (zarith, s .inside j l k))),
+  ap {B = ℕ} (λ b. cond b 1 0) (ap (atZero w) (eq (e + 1) (suc e) (omega arith)) ∙ →eqZ (D w (suc e)) (pos 0) (omega (zarith, s .after))),
+  tally-ext (λ j. atZero w (suc e + j)) (atZero v) n (λ j l k. ap (λ z. eqZ z (pos 0))
+      (D-add w (suc e) j ∙ omega (zarith, s .after, +law (D w (suc e)) (D (drop (suc e) w) j), ap (λ u. D u j) d))),
+)
 
-eqb-iff : (a b c d : ℕ) → (a ≡ b → c ≡ d) → (c ≡ d → a ≡ b) → eqb a b ≡ eqb c d
-eqb-iff a b c d f g = go (ℕ-discrete a b)
+pub roots-tally : (f : Forest) → roots f ≡ tally (λ j. eqZ (D (encode f) j) (pos 0)) (length (encode f))
+roots-tally empty = refl
+roots-tally (tree k r) =
+    let w : List Bool = encode (tree k r) in
+    let e : ℕ = suc (length (encode k)) in
+    let s : Span w 0 (suc (0 + length (encode k))) 0 = bridge (tree k r) .0 .upward .0 in
+    let i : suc (0 + length (encode k)) ≡ e = omega arith in
+    ap suc (roots-tally r)
+    ∙ sym (roots-tree w (encode r) e (rw i at s) (ap (λ n. drop n w) (eq (suc e) (suc (length (encode k) + 1)) (omega arith)) ∙ drop-append-add (encode k) (false ∷ encode r) 1) (length (encode r)))
+    ∙ ap (tally (atZero w)) (eq (suc e + length (encode r)) (length w) (omega (arith, length-append (encode k) (false ∷ encode r))))
+
+-- the same, where that word is n bits of a longer one, from place p on
+pub roots-part : (w : List Bool) (p n : ℕ) (k : Forest) → take n (drop p w) ≡ encode k → n ≡ length (encode k) → roots k ≡ tally (λ j. eqZ (D w (p + j)) (D w p)) n
+roots-part w p n k b i = roots-tally k ∙ ap (tally (atZero (encode k))) (sym i) ∙ tally-ext (atZero (encode k)) (λ j. eqZ (D w (p + j)) (D w p)) n (λ j l h. same j (D-part w p n j h))
   where
-    go : Dec (a ≡ b) → eqb a b ≡ eqb c d
-    go (yes e) = ap (λ n. eqb n b) e ∙ eqb-same b ∙ sym (ap (λ n. eqb n d) (f e) ∙ eqb-same d)
-    go (no n) = eqb-ne a b n ∙ sym (eqb-ne c d (λ e. n (g e)))
-
--- within a word, by its heights
-module _ (f : Forest) (a : ℕ) (o : getD (encode f) a false ≡ true) where
-  pub kind-9-range : (q : ℕ) → Next (encode f) a q → children f a ≡ some (tally (λ j. eqb (height (encode f) (suc a + j)) (suc (height (encode f) a))) (pred q - suc a))
-  kind-9-range q h =
-      let n = node-at f a o in
-      let k : Forest = n .x .kids in
-      let z : zeros 0 (encode k) ≡ roots k = ap (zeros 0) (sym (append-nil (encode k))) ∙ zeros-roots k [] ∙ omega arith in
-      let e : length (encode k) ≡ pred q - suc a = omega (arith, n .here, returns f a o q h) in
-      ap (λ y. ask y (λ x. some (roots (x .kids)))) (n .found)
-      ∙ ap some (sym z ∙ zeros-tally (encode k) 0 (λ p l. omega (arith, low k p l))
-      ∙ tally-ext (level 0 (encode k)) (λ j. eqb (height (encode f) (suc a + j)) (suc (height (encode f) a))) (length (encode k)) (deeper k (n .x .place) (n .here) (n .good .below) (length (n .x .above)) (n .upward .0 .before))
-      ∙ ap (tally (λ j. eqb (height (encode f) (suc a + j)) (suc (height (encode f) a)))) e)
-    where
-      low : (k : Forest) (p : ℕ) → p ≤ length (encode k) → rank false (encode k) p ≤ rank true (encode k) p
-      low k p l = subst (λ u. rank false u p ≤ rank true u p) (append-nil (encode k)) (above k [] p l)
-
-      deeper : (k : Forest) (p : ℕ) → p ≡ a → take (length (encode k)) (drop (suc p) (encode f)) ≡ encode k → (d : ℕ) → rank true (encode f) a ≡ d + rank false (encode f) a
-          → (j : ℕ) → 0 < j → j ≤ length (encode k) → level 0 (encode k) j ≡ eqb (height (encode f) (suc a + j)) (suc (height (encode f) a))
-      deeper k p i b d s j u v = eqb-iff (0 + rank true (encode k) j) (rank false (encode k) j) (height (encode f) (suc a + j)) (suc (height (encode f) a))
-          (λ t. omega (arith, at true, at false, opens (encode f) a o, low k j v)) (λ t. omega (arith, at true, at false, opens (encode f) a o, low k j v))
-        where
-          at : (b : Bool) → rank b (encode f) (suc a + j) ≡ rank b (encode f) (suc a) + rank b (encode k) j
-          at c = rank-add c (encode f) (suc a) j
-              ∙ ap (λ m. rank c (encode f) (suc a) + m) (ap (count c) (sym (take-take j (length (encode k)) (drop (suc a) (encode f)) v) ∙ ap (take j) (ap (λ r. take (length (encode k)) (drop (suc r) (encode f))) (sym i) ∙ b)))
+    same : (j : ℕ) → D w (p + j) ≡ D w p +ℤ D (take n (drop p w)) j → eqZ (D (encode k) j) (pos 0) ≡ eqZ (D w (p + j)) (D w p)
+    same j e =
+        let u : List Bool = take n (drop p w) in
+        ap (λ v. eqZ (D v j) (pos 0)) (sym b) ∙ same-test (eqZ (D u j) (pos 0)) (eqZ (D w (p + j)) (D w p)) ((λ t. omega (zarith, +law (D w p) (D u j))), λ t. omega (zarith, +law (D w p) (D u j)))

@@ -11,26 +11,7 @@ use mir.Syntax.{Width, w32}
 use mir.Val.{SFits, hbits, toZ, ofZ}
 use mir.Facts.{toZ-ofZ}
 use Rattle.word.specs.Signed.{P, N, minZ, maxZ, eqZ}
-
--- ---- Booleans
-pub T-true : (b : Bool) → T b → b ≡ true
-T-true true t = refl
-T-true false t = absurd t
-
-pub true-T : {b : Bool} → b ≡ true → T b
-true-T e = subst T (sym e) tt
-
-pub true≢false : true ≡ false → ⊥
-true≢false e = subst T e tt
-
-pub not-true : (b : Bool) → (b ≡ true → ⊥) → b ≡ false
-not-true true f = absurd (f refl)
-not-true false f = refl
-
--- go by a test: `by-test (leZ a b) (λ e. ..) (λ e. ..)`
-pub by-test {ℓ} : {A : Type ℓ} (b : Bool) → (b ≡ true → A) → (b ≡ false → A) → A
-by-test true f g = f refl
-by-test false f g = g refl
+pub use Rattle.word.proofs.Tests.{T-true, true-T, true≢false, not-true, by-test}
 
 -- only where a goal names `P z` or `N z` by itself: one of the two is 0
 pub parts : (z : ℤ) → min (P z) (N z) ≡ 0
@@ -70,6 +51,10 @@ pub →eq : (a b : ℤ) → P a + N b ≡ P b + N a → a ≡ b
 →eq (pos a) (negsuc b) h = absurd (omega arith)
 →eq (negsuc a) (pos b) h = absurd (omega arith)
 →eq (negsuc a) (negsuc b) h = ap negsuc (omega arith)
+
+-- this one is listed where it is wanted: `ne→ a b h`
+pub ne→ : (a b : ℤ) → a ≢ b → P a + N b ≢ P b + N a
+ne→ a b n e = n (→eq a b e)
 
 -- ---- tests
 pub leZ→ : (a b : ℤ) → T (leZ a b) → P a + N b ≤ P b + N a

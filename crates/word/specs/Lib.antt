@@ -1,4 +1,6 @@
 pub mod Bits
+pub mod Breaks
+pub mod Depth
 pub mod Forest
 pub mod Nodes
 pub mod Parse

@@ -7,36 +7,38 @@ use lib.Dec.{eqb}
 use lib.ListN.{length}
 use Rattle.word.specs.Forest.{Forest, empty, tree, encode}
 
--- "A node is named by the place of its opening bit." Beside its place: the places of its parent, of its parent's parent, and so on up
--- to a root; the forest of its kids; and the forest of the siblings after it
+-- "A node is named by the place of its opening bit." Beside its place it has the places of its parent, of its parent's parent and so on
+-- up to a root; the forest of its kids; and the rest of the forest that it begins: its siblings to the right, with all below them
 pub record Node : Type 0 where
   pub place : ℕ
   pub above : List ℕ
   pub kids : Forest
   pub rest : Forest
 
--- the word of its kids stands between its opening and its closing
+-- "an opening, a balanced word, a closing": the word of its kids stands between its opening and its closing
 abbrev pub closing : Node → ℕ
 closing x = suc (x .place + length (encode (x .kids)))
 
--- the nodes, in preorder, of a forest whose word starts at place `at` and whose roots stand below the nodes at the places `above`
+-- the nodes, in preorder, of a forest whose word starts at place `at` and whose roots have the nodes at the places `above` above them
 abbrev pub nodes : ℕ → List ℕ → Forest → List Node
 nodes at above empty = []
 nodes at above (tree kids rest) =
     let x : Node = record { place = at; above = above; kids = kids; rest = rest } in
     x ∷ nodes (suc at) (at ∷ above) kids ++ nodes (suc (closing x)) above rest
 
+-- all nodes of a forest: the first stands at place 0, and nothing is above a root
 abbrev pub table : Forest → List Node
 table f = nodes zero [] f
 
--- the first node that passes a test, and how many stand before it
+-- the first node that passes a test
 abbrev pub find : (Node → Bool) → List Node → Option Node
 find t [] = none
 find t (x ∷ xs) = cond (t x) (some x) (find t xs)
 
-abbrev pub index : (Node → Bool) → List Node → ℕ
-index t [] = zero
-index t (x ∷ xs) = cond (t x) zero (suc (index t xs))
+-- how many nodes stand before the first that passes it
+abbrev pub before : (Node → Bool) → List Node → ℕ
+before t [] = zero
+before t (x ∷ xs) = cond (t x) zero (suc (before t xs))
 
 abbrev pub standsAt : ℕ → Node → Bool
 standsAt a x = eqb (x .place) a
@@ -48,17 +50,18 @@ closesAt a x = eqb (closing x) a
 abbrev pub at : Forest → ℕ → Option Node
 at f a = find (standsAt a) (table f)
 
+-- what is asked of a node; where there is no node there is no answer
 abbrev pub ask : Option Node → (Node → Option ℕ) → Option ℕ
 ask none k = none
 ask (some x) k = k x
 
-abbrev pub lineOf : Option Node → List ℕ
-lineOf none = []
-lineOf (some x) = x .place ∷ x .above
+abbrev pub chainOf : Option Node → List ℕ
+chainOf none = []
+chainOf (some x) = x .place ∷ x .above
 
 -- a's chain: the places of a, of its parent, and so on up to its root
-abbrev pub line : Forest → ℕ → List ℕ
-line f a = lineOf (at f a)
+abbrev pub chain : Forest → ℕ → List ℕ
+chain f a = chainOf (at f a)
 
 -- whether a place is in a list
 abbrev pub on : List ℕ → ℕ → Bool
