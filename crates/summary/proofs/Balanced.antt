@@ -5,16 +5,16 @@ use mathlib.Core.Bool.{Bool, true, false}
 use mathlib.Core.List.{List, [], _∷_, _++_}
 use Prim.Native.Nat.{ℕ, zero, suc, _≤_}
 use lib.ListN.{length, take}
+use lib.Seq.{take-length}
 use lib.IntN.{ℤ, pos, negsuc, _+ℤ_, _-ℤ_, +ℤ-idl}
 use lib.Signed.{_≤ℤ_, _<ℤ_}
-use Rattle.word.specs.Forest.{Forest, empty, tree, encode, count, Balanced}
+use Rattle.word.specs.Forest.{Forest, empty, tree, encode, Balanced, D}
 use Rattle.word.specs.Parse.{isBalanced}
 use Rattle.word.specs.Questions.{roots}
 use Rattle.word.specs.Signed.{minZ}
-use Rattle.word.proofs.Bridge.{rank}
 use Rattle.word.proofs.Parse.{isBalanced-iff}
-use Rattle.word.proofs.Walks.{balanced-iff}
-use Rattle.word.proofs.Signed.{zarith, +law, -law, min-law}
+use Rattle.word.proofs.Balance.{isBalanced-by}
+use Rattle.word.proofs.Signed.{zarith, +law, min-law}
 use Rattle.summary.specs.declared.Summary.{Summary}
 use Rattle.summary.specs.Stretch.{depthOf, summaryOf}
 use Rattle.summary.specs.Join.{joined, joinOf, emptyOf}
@@ -22,43 +22,35 @@ use Rattle.summary.proofs.Join.{at-yes, at-no, join-both}
 use Rattle.summary.proofs.Append.{one, counted, summary-empty, summary-cons, summary-append}
 use Rattle.summary.proofs.Meaning.{Reaches, reaches-iff, total-is}
 use Rattle.summary.proofs.Bounds.{summary-single}
-use Rattle.summary.proofs.Depth.{depth-counts, least-reached}
+use Rattle.summary.proofs.Depth.{D-is, least-reached}
 
--- never more closings than openings: the least is not negative
-abbrev Never : List Bool → Type 0
-Never w = (p : ℕ) → p ≤ length w → rank false w p ≤ rank true w p
-
-depth-rank : (w : List Bool) (p : ℕ) → depthOf (take p w) ≡ pos (rank true w p) -ℤ pos (rank false w p)
-depth-rank w p = depth-counts (take p w)
-
-never-least : (w : List Bool) → Never w → pos 0 ≤ℤ summaryOf w .least
+-- D is never negative exactly where the least is not
+never-least : (w : List Bool) → ((p : ℕ) → p ≤ length w → pos 0 ≤ℤ D w p) → pos 0 ≤ℤ summaryOf w .least
 unfolding emptyOf
 never-least [] h = rw summary-empty (omega zarith)
 never-least (b ∷ w) h =
     let r = least-reached (b ∷ w) (omega zarith) in
-    omega (zarith, r .depth, depth-rank (b ∷ w) (r .place), h (r .place) (r .inside), -law (pos (rank true (b ∷ w) (r .place))) (pos (rank false (b ∷ w) (r .place))))
+    omega (zarith, r .depth, D-is (b ∷ w) (r .place), h (r .place) (r .inside))
 
-least-never : (w : List Bool) → pos 0 ≤ℤ summaryOf w .least → Never w
+least-never : (w : List Bool) → pos 0 ≤ℤ summaryOf w .least → (p : ℕ) → p ≤ length w → pos 0 ≤ℤ D w p
 least-never w h zero l = omega zarith
 least-never w h (suc p) l =
     let s = reaches-iff w (depthOf (take (suc p) w)) .0 (record { place = suc p; after = omega zarith; inside = l; depth = refl }) in
-    omega (zarith, s .low, depth-rank w (suc p), -law (pos (rank true w (suc p))) (pos (rank false w (suc p))))
+    omega (zarith, s .low, D-is w (suc p))
 
-total-even : (w : List Bool) → (summaryOf w .total ≡ pos 0) ↔ (count true w ≡ count false w)
-total-even w =
-    let e : summaryOf w .total ≡ pos (count true w) -ℤ pos (count false w) = total-is w ∙ depth-counts w in
-    (λ h. omega (zarith, e, -law (pos (count true w)) (pos (count false w))), λ h. omega (zarith, e, -law (pos (count true w)) (pos (count false w))))
+total-end : (w : List Bool) → summaryOf w .total ≡ D w (length w)
+total-end w = total-is w ∙ ap depthOf (sym (take-length w)) ∙ sym (D-is w (length w))
 
 -- a word is balanced exactly where its total is 0 and its least is not negative
-pub balanced-summary : (w : List Bool) → Balanced w ↔ ((summaryOf w .total ≡ pos 0) × (pos 0 ≤ℤ summaryOf w .least))
-balanced-summary w =
-    let b = balanced-iff w in (
-      (λ h. (total-even w .1 (b .0 h .1), never-least w (b .0 h .0))),
-      λ h. b .1 (least-never w (h .1), total-even w .0 (h .0)),
+pub isBalanced-summary : (w : List Bool) → (isBalanced w ≡ true) ↔ ((summaryOf w .total ≡ pos 0) × (pos 0 ≤ℤ summaryOf w .least))
+isBalanced-summary w =
+    let b = isBalanced-by w in (
+      (λ h. (total-end w ∙ b .0 h .1, never-least w (b .0 h .0))),
+      λ h. b .1 (least-never w (h .1), sym (total-end w) ∙ h .0),
     )
 
-pub isBalanced-summary : (w : List Bool) → (isBalanced w ≡ true) ↔ ((summaryOf w .total ≡ pos 0) × (pos 0 ≤ℤ summaryOf w .least))
-isBalanced-summary w = (λ h. balanced-summary w .0 (isBalanced-iff w .0 h), λ h. isBalanced-iff w .1 (balanced-summary w .1 h))
+pub balanced-summary : (w : List Bool) → Balanced w ↔ ((summaryOf w .total ≡ pos 0) × (pos 0 ≤ℤ summaryOf w .least))
+balanced-summary w = (λ h. isBalanced-summary w .0 (isBalanced-iff w .1 h), λ h. isBalanced-iff w .0 (isBalanced-summary w .1 h))
 
 pub encode-summary : (f : Forest) → (summaryOf (encode f) .total ≡ pos 0) × (pos 0 ≤ℤ summaryOf (encode f) .least)
 encode-summary f = balanced-summary (encode f) .0 (f, refl)
@@ -82,9 +74,8 @@ opened k = (
           zarith,
           d,
           +law (pos 1) (depthOf (take p (encode k))),
-          depth-rank (encode k) p,
+          D-is (encode k) p,
           least-never (encode k) (encode-summary k .1) p (omega zarith),
-          -law (pos (rank true (encode k) p)) (pos (rank false (encode k) p)),
         )
 
 -- y's least stands below x's, or at it
