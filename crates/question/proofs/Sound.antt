@@ -10,15 +10,8 @@ use lib.ListN.{length, getD}
 use Rattle.judge.specs.First.{firstOf}
 use Rattle.question.specs.declared.Question.{Question}
 use Rattle.question.specs.declared.Question.the-variants.{Depth, Number, WithNumber, Closing, Opening, Parent, Ancestor, Branch, Children, FirstChild, NextSibling, Nearest, Lowest, Holds, Refused}
+use Rattle.question.specs.Places.{IsNode, IsClosing}
 use Rattle.question.specs.Decode.{Checks, node, closing, boundaries, unless, decodeOf}
-
-pub record IsNode (w : List Bool) (a : ℕ) : Type 0 where
-  pub below : a < length w
-  pub opens : getD w a false ≡ true
-
-pub record IsClosing (w : List Bool) (a : ℕ) : Type 0 where
-  pub below : a < length w
-  pub closes : getD w a true ≡ false
 
 abbrev pub Sound : List Bool → Question → Type 0
 Sound w (Depth a) = IsNode w a
