@@ -1,34 +1,48 @@
+-- `refused` gives the first refusal's number: each return by the tests that led to it. Assumes nothing.
+use mathlib.Core.Path.{sym, _∙_}
+use Prim.Native.Nat.{_≤_, _<_}
+use native.Mathlib.Omega.{arith}
+use lib.ListN.{length}
 use borrow.Author.Needs.{needs}
+use borrow.Author.Tests.{lt-ltb, le-ltb, not-true, not-false}
+use Rattle.word.specs.Bits.{bytesOf}
 use Rattle.judge.proofs.refused.Statement.{statement}
 use Rattle.judge.proofs.refused.Tie as tie
-use Rattle.judge.proofs.refused.Reads as reads
-use Rattle.judge.proofs.refused.Lts as lts
-use Rattle.judge.proofs.balanced.Reads as balanced-reads
-use Rattle.judge.proofs.bytes_of.Reads as bytes-of-reads
 
--- src/lib.rt:37:9
 returns : tie.Need-returns
-returns c = ?
+returns c = simp (lt-ltb 2097152 (c .before .before .args .m) (c .if1 .taken))
 
--- src/lib.rt:39:22
 bytes-of-requires : tie.Need-bytes-of-requires
 bytes-of-requires c κs = search needs
 
--- src/lib.rt:40:9
 returns-2 : tie.Need-returns-2
-returns-2 c = ?
+returns-2 c =
+    let a = c .before .before .before .before .args in
+    let few : length (a .bytes .now) < bytesOf (a .m) = omega arith in
+    simp (le-ltb 2097152 (a .m) (c .before .before .if1 .left), lt-ltb (length (a .bytes .now)) (bytesOf (a .m)) few)
 
--- src/lib.rt:42:9
 balanced-requires : tie.Need-balanced-requires
 balanced-requires c κs = search needs
 
--- src/lib.rt:43:9
 returns-3 : tie.Need-returns-3
-returns-3 c = ?
+returns-3 c =
+    let a = c .before .before .before .before .before .before .args in
+    let enough : bytesOf (a .m) ≤ length (a .bytes .now) = omega arith in
+    simp (
+      le-ltb 2097152 (a .m) (c .before .before .before .before .if1 .left),
+      le-ltb (length (a .bytes .now)) (bytesOf (a .m)) enough,
+      sym (c .before .balanced .ensures) ∙ not-true (c .before .balanced .result) (c .if3 .taken),
+    )
 
--- src/lib.rt:33:1
 returns-4 : tie.Need-returns-4
-returns-4 c = ?
+returns-4 c =
+    let a = c .before .before .before .before .before .before .args in
+    let enough : bytesOf (a .m) ≤ length (a .bytes .now) = omega arith in
+    simp (
+      le-ltb 2097152 (a .m) (c .before .before .before .before .if1 .left),
+      le-ltb (length (a .bytes .now)) (bytesOf (a .m)) enough,
+      sym (c .before .balanced .ensures) ∙ not-false (c .before .balanced .result) (c .if3 .left),
+    )
 
 pub refused-spec : {M : Type 1} → statement M
 refused-spec =
