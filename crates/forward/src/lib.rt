@@ -50,7 +50,11 @@ fn beside(index: &[i32], w: Walk) -> Seen
     ensures { λ r. ⌜ r ≡ besideOf (entryAt (now (index .entry))) (w .entry) (w .reads) ⌝ }
 {
     let k = w.entry;
-    if k % 2 == 0 { walk::read(index, k + 1, w.reads) } else { walk::unread(w.reads) }
+    if k % 2 == 0 {
+        walk::read(index, k + 1, w.reads)
+    } else {
+        walk::unread(w.reads)
+    }
 }
 
 // "if its count isn't 0 and least ≤ t ≤ greatest, go down into it, else take its total off t; then halve k."
@@ -80,7 +84,11 @@ fn down(index: &[i32], w: Walk) -> Walk
 {
     let k = w.entry;
     let seen = walk::read(index, 2 * k, w.reads);
-    if walk::holds(seen.summary, w.want) { w.enter(2 * k, seen) } else { w.less(2 * k + 1, seen) }
+    if walk::holds(seen.summary, w.want) {
+        w.enter(2 * k, seen)
+    } else {
+        w.less(2 * k + 1, seen)
+    }
 }
 
 // The way down to a leaf: an entry from l on.
@@ -117,7 +125,7 @@ pub fn leaf(bytes: &[u8], m: usize, l: usize, w: Walk) -> Found
 
 // Past the first block: the climb, the way down, and the scan of the leaf reached. "At entry 1 there is none."
 fn onward(bytes: &[u8], m: usize, index: &[i32], l: usize, start: Walk) -> Found
-    requires { ⌜ Lent (now bytes) (now index) m l × Ready m l start ⌝ }
+    requires { ⌜ Lent (now bytes) (now index) m l × Ready l start ⌝ }
     ensures { λ r. ⌜ said r ≡ whole (now (bytes .entry)) m start ⌝ }
 {
     let found = climb(index, start);
