@@ -37,3 +37,8 @@ replied r n = record { code = r .code; result = r .result; reads = n }
 -- what a last walk found is the answer, with the entries read before it
 abbrev pub reachedOf : Reach → ℕ → Answer
 reachedOf x n = replied (found (x .0)) (n + x .1)
+
+-- a boundary of a word, or none, after few reads
+pub record Near (x : Reach) : Type 0 where
+  pub place : (q : ℕ) → x .0 ≡ some q → q ≤ 2097152
+  pub few : x .1 ≤ 1073741824

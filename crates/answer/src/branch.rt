@@ -41,20 +41,6 @@ pub fn branch(bytes: &[u8], m: usize, index: &[i32], l: usize, a: usize) -> Answ
     give::answered((e.past - a) / 2, e.reads)
 }
 
-// Kind 9. The children are the boundaries between a's opening and its closing that reach the least depth there.
-pub fn children(bytes: &[u8], m: usize, index: &[i32], l: usize, a: usize) -> Answer
-    requires { ⌜ Ready (now bytes) (now index) m l × IsNode (word (now bytes) m) a ⌝ }
-    ensures { λ r. ⌜ r ≡ answerTo (word (now (bytes .entry)) m) (Question.Children a) ⌝ }
-{
-    let e = end_of(bytes, m, index, l, a);
-    if word::opens(bytes, a + 1) {
-        let r = range::range(bytes, m, index, l, a + 1, e.past - 1);
-        let s = r.summary;
-        return give::answered(s.count as usize, e.reads + r.reads);
-    }
-    give::answered(0, e.reads)
-}
-
 // Kind 10. No walk: the next bit shows it.
 pub fn first_child(bytes: &[u8], m: usize, a: usize) -> Answer
     requires { ⌜ Row (now bytes) m × IsNode (word (now bytes) m) a ⌝ }

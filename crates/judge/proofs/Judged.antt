@@ -12,7 +12,7 @@ use Rattle.word.specs.Bits.{word, bytesOf}
 use Rattle.word.specs.Parse.{isBalanced, parse}
 use Rattle.word.proofs.Bits.{length-bits}
 use Rattle.word.proofs.Parse.{isBalanced-iff}
-use Rattle.word.proofs.ByDepth.{size-length}
+use Rattle.word.proofs.Answers.{size-length}
 use Rattle.word.proofs.Signed.{not-true}
 use Rattle.judge.specs.declared.Outcome.{Outcome}
 use Rattle.judge.specs.Judge.{tooLong, tooFewBytes, unbalanced, refusal, outcomeOf, judged}
