@@ -1,3 +1,4 @@
 pub mod Height
 pub mod Level
 pub mod Numbers
+pub mod Laid

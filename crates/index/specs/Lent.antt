@@ -1,7 +1,7 @@
 -- The index as a lent slice of numbers: entry k read from it, and when the numbers are a word's index.
 use mathlib.Core.Path.{_≡_}
 use mathlib.Core.Bool.{Bool}
-use mathlib.Core.List.{List}
+use mathlib.Core.List.{List, [], _∷_}
 use Prim.Native.Nat.{ℕ, _+_, _*_, _^_, _≤_, _<_}
 use lib.ListN.{length, getD}
 use lib.IntN.{ℤ, pos}
@@ -11,6 +11,10 @@ use Rattle.index.specs.Shape.{entry}
 -- "Entry k takes four signed 32-bit numbers from place 4k."
 abbrev pub entryAt : List ℤ → ℕ → Summary
 entryAt idx k = record { total = getD idx (4 * k) (pos 0); least = getD idx (4 * k + 1) (pos 0); greatest = getD idx (4 * k + 2) (pos 0); count = getD idx (4 * k + 3) (pos 0) }
+
+-- the four numbers, in the order in which they lie
+abbrev pub four : Summary → List ℤ
+four s = s .total ∷ s .least ∷ s .greatest ∷ s .count ∷ []
 
 -- the numbers lent are the index, of height h, of the word: each entry read is the word's own
 pub record Indexed (h : ℕ) (w : List Bool) (idx : List ℤ) : Type 0 where
