@@ -1,12 +1,13 @@
 -- The index as a lent slice of numbers: entry k read from it, and when the numbers are a word's index.
 use mathlib.Core.Path.{_≡_}
-use mathlib.Core.Bool.{Bool}
+use mathlib.Core.Bool.{Bool, true, false, cond}
 use mathlib.Core.List.{List, [], _∷_}
 use Prim.Native.Nat.{ℕ, _+_, _*_, _^_, _≤_, _<_}
 use lib.ListN.{length, getD}
 use lib.IntN.{ℤ, pos}
+use Rattle.word.specs.Signed.{eqZ}
 use Rattle.summary.specs.declared.Summary.{Summary}
-use Rattle.index.specs.Shape.{entry}
+use Rattle.index.specs.Shape.{entry, index}
 
 -- "Entry k takes four signed 32-bit numbers from place 4k."
 abbrev pub entryAt : List ℤ → ℕ → Summary
@@ -20,3 +21,13 @@ four s = s .total ∷ s .least ∷ s .greatest ∷ s .count ∷ []
 pub record Indexed (h : ℕ) (w : List Bool) (idx : List ℤ) : Type 0 where
   pub long : 8 * 2 ^ h ≤ length idx
   pub reads : (k : ℕ) → k < 2 * 2 ^ h → entryAt idx k ≡ entry h w k
+
+-- the numbers begin with these
+unfoldable pub begins : List ℤ → List ℤ → Bool
+begins [] l = true
+begins (x ∷ xs) [] = false
+begins (x ∷ xs) (y ∷ l) = cond (eqZ x y) (begins xs l) false
+
+-- refusal 7: "one of the 8L index numbers differs". Later ones may be anything
+unfoldable pub isIndex : ℕ → List Bool → List ℤ → Bool
+isIndex h w idx = begins (index h w) idx
