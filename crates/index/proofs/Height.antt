@@ -1,7 +1,7 @@
 -- The height: its leaves reach over the word, and it is at most 13. Assumes nothing.
 use mathlib.Core.Path.{_≡_, refl, sym, ap, _∙_}
 use mathlib.Core.Bool.{Bool, true, false, cond}
-use Rattle.index.specs.Shape.{blocks, heightFrom, height}
+use Rattle.index.specs.Shape.{blocks, heightFrom, height, numbersOf}
 use Prim.Native.Nat.{ℕ, zero, suc, _+_, _-_, _*_, _/_, _^_, _≤_, _<_}
 use native.Mathlib.Omega.{arith}
 use native.Mathlib.Nat.{two-pow-succ, pow-le-pow-right, one-le-pow}
@@ -50,6 +50,11 @@ height-small m l = height-least m 13 (omega arith)
 
 pub leaves-few : (m : ℕ) → m ≤ 2097152 → 2 ^ height m ≤ 8192
 leaves-few m l = pow-le-pow-right (omega arith) (height-small m l)
+
+-- 8L numbers
+pub numbers-are : (m : ℕ) → numbersOf m ≡ 8 * 2 ^ height m
+unfolding numbersOf
+numbers-are m = refl
 
 -- a power of two that is tried from 1 on, and is not yet past the leaves
 pub record Tried (m l : ℕ) : Type 0 where
