@@ -1,2 +1,4 @@
 pub mod Blocks
 pub mod Entries
+pub mod Refusal
+pub mod Settled

@@ -7,7 +7,10 @@ ghost use Rattle.word.specs.Bits.{word, bytesOf};
 ghost use Rattle.summary.specs.Stretch.{summaryOf};
 ghost use Rattle.index.specs.Shape.{block as Spec·block, height, entry, index as Spec·index};
 ghost use Rattle.index.specs.Lent.{isIndex};
+ghost use Rattle.word.specs.Parse.{isBalanced};
+ghost use Rattle.build.specs.Build.{refusal, Built};
 ghost use Rattle.build.specs.Entry.{Lent, Known, equal};
+use judge::Outcome;
 use summary::Summary;
 
 // "Blocks are 256 bits; the last may be shorter." From B on, a block is empty.
@@ -85,4 +88,44 @@ pub fn same(bytes: &[u8], m: u32, index: &[i32]) -> bool
         }
     }
     true
+}
+
+fn balanced(bytes: &[u8], m: u32) -> bool
+    requires { ⌜ (m ≤ 2097152) × (bytesOf m ≤ length (now bytes)) ⌝ }
+    ensures { λ r. ⌜ r ≡ isBalanced (word (now (bytes .entry)) m) ⌝ }
+{
+    true
+}
+
+// The number of the first refusal, or 0.
+fn refused(bytes: &[u8], m: u32, room: usize) -> u32
+    ensures { λ r. ⌜ r ≡ refusal (now (bytes .entry)) m room ⌝ }
+{
+    if 2097152 < m {
+        return 1;
+    }
+    if bytes.len() < judge::bytes_of(m) {
+        return 2;
+    }
+    if room < 8 * index::leaves(m) {
+        return 3;
+    }
+    if !balanced(bytes, m) {
+        return 6;
+    }
+    0
+}
+
+pub fn build(bytes: &[u8], m: u32, index: &mut [i32]) -> Outcome
+    ensures { λ r. ⌜ Built (now (bytes .entry)) m (now (index .entry)) r (now (index .exit)) ⌝ }
+{
+    let code = refused(bytes, m, index.len());
+    if code != 0 {
+        return Outcome { code, value: 0 };
+    }
+    fill(bytes, m, index);
+    Outcome {
+        code: 0,
+        value: (m / 2) as usize,
+    }
 }

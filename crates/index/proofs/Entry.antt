@@ -6,14 +6,18 @@ use Prim.Native.Nat.{ℕ, zero, suc, _+_, _-_, _*_, _^_, _≤_, _<_}
 use native.Mathlib.Omega.{arith}
 use native.Mathlib.Decide.{decLt}
 use native.Mathlib.Nat.{two-pow-succ, one-le-pow}
-use lib.ListN.{length, take, drop, length-take, length-drop}
+use lib.ListN.{length, take, drop, getD, length-take, length-drop}
+use lib.IntN.{ℤ, pos, natAbs}
+use mir.Syntax.{w32}
+use mir.Val.{SFits}
+use Rattle.word.proofs.Signed.{zarith, abs-law}
 use Rattle.summary.specs.declared.Summary.{Summary}
 use Rattle.summary.specs.Stretch.{summaryOf}
 use Rattle.summary.specs.Join.{joinOf, emptyOf}
 use Rattle.summary.specs.Bound.{Bounded}
 use Rattle.summary.proofs.Append.{summary-empty}
 use Rattle.summary.proofs.Bounds.{summary-bounded}
-use Rattle.index.specs.Shape.{block, entryBy, entry}
+use Rattle.index.specs.Shape.{block, entryBy, entry, indexFrom, index}
 use Rattle.index.proofs.Level.{Level, level-low, level-left, level-right, twice, leaf, both, entry-is}
 
 -- the level of entry k, and the block a where its stretch starts
@@ -59,10 +63,26 @@ entry-joins h k w l u = let p = placed h k l (omega arith) in go (p .f) (p .g) (
         (entry-is h (suc f) g (2 * k) a w (level-left v) (omega (arith, e, twice k g)))
         (entry-is h (suc f) g (2 * k + 1) (a + 2 ^ g) w (level-right v) (omega (arith, e, twice k g))))
 
--- every number of the index is at most the word's length, so it fits 32 bits
+-- the numbers of an entry are at most the word's length
 pub entry-bounded : (m h k : ℕ) (w : List Bool) → length w ≤ m → k < 2 * 2 ^ h → Bounded m (entry h w k)
 entry-bounded m h zero w l u = rw (entry-zero h w, ← summary-empty) (summary-bounded m [] (omega arith))
 entry-bounded m h (suc k) w l u =
     let p = placed h (suc k) (omega arith) u in
     rw (entry-is h (p .f) (p .g) (suc k) (p .a) w (p .level) (p .start))
     (summary-bounded m (take (256 * 2 ^ p .g) (drop (256 * p .a) w)) (omega (arith, length-take (256 * 2 ^ p .g) (drop (256 * p .a) w), length-drop (256 * p .a) w)))
+
+numbers-small : (n : ℕ) (e : ℕ → Summary) (k m : ℕ) → ((j : ℕ) → k ≤ j → j < k + n → Bounded m (e j)) → (i : ℕ) → natAbs (getD (indexFrom n e k) i (pos 0)) ≤ m
+unfolding indexFrom
+numbers-small zero e k m b i = omega arith
+numbers-small (suc n) e k m b zero = b k (omega arith) (omega arith) .total
+numbers-small (suc n) e k m b (suc zero) = b k (omega arith) (omega arith) .least
+numbers-small (suc n) e k m b (suc (suc zero)) = b k (omega arith) (omega arith) .greatest
+numbers-small (suc n) e k m b (suc (suc (suc zero))) = b k (omega arith) (omega arith) .count
+numbers-small (suc n) e k m b (suc (suc (suc (suc i)))) = numbers-small n e (suc k) m (λ j l u. b j (omega arith) (omega arith)) i
+
+-- every number of the index fits 32 bits
+pub index-fits : (h : ℕ) (w : List Bool) (i : ℕ) → length w ≤ 2097152 → SFits w32 (getD (index h w) i (pos 0))
+unfolding index
+index-fits h w i l =
+    let s : natAbs (getD (indexFrom (2 * 2 ^ h) (entry h w) 0) i (pos 0)) ≤ 2097152 = numbers-small (2 * 2 ^ h) (entry h w) 0 2097152 (λ j a b. entry-bounded 2097152 h j w l (omega arith)) i in
+    omega (zarith, abs-law (getD (indexFrom (2 * 2 ^ h) (entry h w) 0) i (pos 0)))

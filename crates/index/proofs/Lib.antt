@@ -1,4 +1,5 @@
 pub mod Entry
+pub mod Examples
 pub mod Height
 pub mod Laid
 pub mod Level
