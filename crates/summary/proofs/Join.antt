@@ -1,13 +1,12 @@
 -- Joining is associative, on summaries whose counts are not negative, and the empty summary changes nothing.
-use mathlib.Core.Path.{_≡_, refl, sym, _∙_, ap, ap₂, subst}
+use mathlib.Core.Path.{_≡_, refl, sym, _∙_, ap}
 use mathlib.Core.Logic.{_≢_}
-use mathlib.Core.Bool.{Bool, true, false, not, cond}
-use Prim.Native.Nat.{ℕ, zero, suc, _+_, _≤_, _<_}
-use lib.IntN.{ℤ, pos, negsuc, _+ℤ_, +ℤ-assoc, +ℤ-idr, +ℤ-idl}
+use Prim.Native.Nat.{_+_}
+use lib.IntN.{ℤ, pos, negsuc, _+ℤ_, +ℤ-assoc, +ℤ-idl}
 use lib.Signed.{_≤ℤ_, _<ℤ_}
 use Rattle.summary.specs.declared.Summary.{Summary}
 use Rattle.word.specs.Signed.{P, N, minZ, maxZ, eqZ}
-use Rattle.word.proofs.Signed.{zarith, +law, min-law, max-law, eqZ-refl, →eqZ, →neqZ, by-test}
+use Rattle.word.proofs.Signed.{zarith, +law, min-law, max-law, →eqZ, →neqZ, by-test}
 use Rattle.summary.specs.Join.{at, joined, joinOf, emptyOf}
 
 pub at-yes : (a m c : ℤ) → a ≡ m → at a m c ≡ c

@@ -1,14 +1,14 @@
 -- What `Summary::join` computes, as the machine has it: each number is read back from its bits.
-use mathlib.Core.Path.{_≡_, refl, sym, _∙_, ap}
-use mathlib.Core.Bool.{Bool, true, false, cond}
-use Prim.Native.Nat.{ℕ, zero, suc, _+_, _≤_, _<_}
-use lib.IntN.{ℤ, pos, negsuc, _+ℤ_, natAbs}
+use mathlib.Core.Path.{_≡_, _∙_}
+use mathlib.Core.Bool.{false}
+use Prim.Native.Nat.{_≤_, _<_}
+use lib.IntN.{ℤ, pos, _+ℤ_, natAbs}
 use lib.Signed.{mag}
 use mir.Syntax.{w32}
 use mir.Val.{SFits, toZ, ofZ}
 use mir.Facts.{toZ-ofZ}
 use Rattle.summary.specs.declared.Summary.{Summary}
-use Rattle.word.specs.Signed.{P, N, minZ, maxZ, eqZ}
+use Rattle.word.specs.Signed.{minZ, maxZ, eqZ}
 use Rattle.word.proofs.Signed.{zarith, parts, by-test, abs-law, +law, i32}
 use Rattle.summary.specs.Join.{at, joined, joinOf}
 use Rattle.summary.proofs.Join.{same, at-yes, at-no}
@@ -22,7 +22,7 @@ rb z = toZ w32 (ofZ w32 z)
 abbrev pub Ok : ℤ → Type 0
 Ok z = mag z < 2147483648
 
-ok-back : (z : ℤ) → Ok z → rb z ≡ z
+pub ok-back : (z : ℤ) → Ok z → rb z ≡ z
 ok-back z h = toZ-ofZ (record { sfits = h })
 
 pub small : (z : ℤ) → natAbs z ≤ 4194304 → SFits w32 z

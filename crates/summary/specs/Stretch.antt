@@ -1,8 +1,7 @@
 -- A word of bits as a walk: an open is one up, a close one down. Its summary, from the running depths.
-use mathlib.Core.Path.{_≡_, refl, sym, _∙_, ap, subst}
-use mathlib.Core.Bool.{Bool, true, false, not, cond}
-use mathlib.Core.List.{List, [], _∷_, _++_, map}
-use Prim.Native.Nat.{ℕ, zero, suc, _+_}
+use mathlib.Core.Bool.{Bool, true, false, cond}
+use mathlib.Core.List.{List, [], _∷_, map}
+use Prim.Native.Nat.{ℕ, _+_}
 use lib.IntN.{ℤ, pos, negsuc, _+ℤ_}
 use Rattle.summary.specs.declared.Summary.{Summary}
 use Rattle.word.specs.Signed.{minZ, maxZ, eqZ}

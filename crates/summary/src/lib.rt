@@ -1,8 +1,6 @@
 ghost use mathlib.Core.Path.{_≡_};
-ghost use mathlib.Core.Bool.{true};
-ghost use Prim.Native.Nat.{_≤_};
-ghost use lib.IntN.{pos, negsuc, _+ℤ_};
-ghost use lib.Signed.{leZ, ltZ};
+ghost use lib.IntN.{_+ℤ_};
+ghost use lib.Signed.{ltZ};
 ghost use mir.Syntax.{w32};
 ghost use mir.Val.{SFits};
 ghost use Rattle.word.specs.Signed.{minZ, maxZ, eqZ};

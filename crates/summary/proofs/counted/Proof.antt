@@ -1,6 +1,6 @@
-use mathlib.Core.Path.{_≡_, refl, sym, _∙_}
+use mathlib.Core.Path.{sym, _∙_}
 use mir.Facts.{toZ-ofZ}
-use Rattle.word.proofs.Signed.{zarith, i32, +law, min-law, max-law, eqb-ofZ, ofZ-eq, ofZ-ne}
+use Rattle.word.proofs.Signed.{zarith, ofZ-eq, ofZ-ne}
 use Rattle.summary.proofs.Join.{at-yes, at-no}
 use Rattle.summary.proofs.counted.Statement.{statement}
 use Rattle.summary.proofs.counted.Tie as tie

@@ -1,9 +1,9 @@
 -- `Summary::join` meets its contract. Assumes nothing.
 use borrow.Author.Needs.{needs}
-use mathlib.Core.Path.{_≡_, refl, sym, _∙_}
+use mathlib.Core.Path.{sym}
 use lib.IntN.{pos}
 use mir.Facts.{sfits-lit}
-use Rattle.word.proofs.Signed.{zarith, ofZ-eq, ofZ-ne, neqZ→}
+use Rattle.word.proofs.Signed.{ofZ-eq, ofZ-ne, neqZ→}
 use Rattle.summary.proofs.Join.{join-left, join-right}
 use Rattle.summary.proofs.Machine.{small, add-small, count-small, made}
 use Rattle.summary.proofs.Summary.join.Statement.{statement}
