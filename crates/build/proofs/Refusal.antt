@@ -14,7 +14,7 @@ use Rattle.word.specs.Parse.{isBalanced}
 use Rattle.judge.specs.declared.Outcome.{Outcome}
 use Rattle.judge.specs.First.{firstOf}
 use Rattle.index.specs.Shape.{height, numbersOf, index}
-use Rattle.build.specs.Entry.{Lent}
+use Rattle.entry.specs.Known.{Lent}
 use Rattle.build.specs.Build.{refusal, builtOutcome, builtIndex, Built}
 
 -- what each test shows, in order

@@ -14,7 +14,7 @@ use Rattle.index.specs.Shape.{height, numbersOf, index}
 use Rattle.index.specs.Lent.{isIndex}
 use Rattle.index.proofs.Height.{numbers-are}
 use Rattle.index.proofs.Numbers.{index-long, is-index}
-use Rattle.build.specs.Entry.{Lent}
+use Rattle.entry.specs.Known.{Lent}
 use Rattle.build.specs.Build.{refusal, builtIndex, Built}
 use Rattle.build.proofs.Refusal.{accepted}
 

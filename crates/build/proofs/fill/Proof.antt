@@ -3,7 +3,8 @@ use mathlib.Core.Path.{_≡_}
 use Prim.Native.Nat.{_+_, _-_}
 use native.Mathlib.Omega.{arith}
 use borrow.Author.Needs.{needs}
-use Rattle.build.proofs.Entries.{Filled, few-leaves, room, fill-none, fill-long, fill-known, fill-next, fill-all}
+use Rattle.entry.proofs.Entries.{few-leaves, room}
+use Rattle.build.proofs.Filled.{Filled, fill-none, fill-long, fill-known, fill-next, fill-all}
 use Rattle.build.proofs.fill.Statement.{statement}
 use Rattle.build.proofs.fill.Tie as tie
 

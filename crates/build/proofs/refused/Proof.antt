@@ -3,7 +3,7 @@ use mathlib.Core.Path.{sym, ap, _∙_}
 use native.Mathlib.Omega.{arith}
 use borrow.Author.Tests.{not-true, not-false}
 use Rattle.index.proofs.Height.{numbers-are}
-use Rattle.build.proofs.Entries.{few-leaves}
+use Rattle.entry.proofs.Entries.{few-leaves}
 use Rattle.build.proofs.Refusal.{refused-1, refused-2, refused-3, judging}
 use borrow.Author.Needs.{needs}
 use Rattle.build.proofs.refused.Statement.{statement}

@@ -1,13 +1,10 @@
 -- What working out the entries one after the other relies on, from the last down to entry 0.
 use mathlib.Core.Path.{_≡_}
-use mathlib.Core.Bool.{Bool, false, cond}
 use mathlib.Core.List.{List}
 use Prim.Native.Nat.{ℕ, _*_, _^_, _≤_, _<_}
 use lib.ListN.{length}
 use lib.IntN.{ℤ}
 use Rattle.word.specs.Bits.{word, bytesOf}
-use Rattle.word.specs.Signed.{eqZ}
-use Rattle.summary.specs.declared.Summary.{Summary}
 use Rattle.index.specs.Shape.{height, numbersOf, entry}
 use Rattle.index.specs.Lent.{entryAt}
 
@@ -23,7 +20,3 @@ pub record Known (bytes : List ℕ) (m l : ℕ) (idx : List ℤ) (k : ℕ) : Typ
   pub leaves : l ≡ 2 ^ height m
   pub inside : k ≤ 2 * l
   pub reads : (j : ℕ) → k ≤ j → j < 2 * l → entryAt idx j ≡ entry (height m) (word bytes m) j
-
--- the four numbers are the same
-unfoldable pub equal : Summary → Summary → Bool
-equal x y = cond (eqZ (x .total) (y .total)) (cond (eqZ (x .least) (y .least)) (cond (eqZ (x .greatest) (y .greatest)) (eqZ (x .count) (y .count)) false) false) false

@@ -2,9 +2,9 @@
 use native.Mathlib.Omega.{arith}
 use borrow.Author.Needs.{needs}
 use Rattle.summary.specs.Join.{emptyOf}
-use Rattle.build.proofs.Entries.{few, room, read-bounded, own-zero, own-leaf, own-joins}
-use Rattle.build.proofs.own.Statement.{statement}
-use Rattle.build.proofs.own.Tie as tie
+use Rattle.entry.proofs.Entries.{few, room, read-bounded, own-zero, own-leaf, own-joins}
+use Rattle.entry.proofs.own.Statement.{statement}
+use Rattle.entry.proofs.own.Tie as tie
 
 returns : tie.Need-returns
 unfolding emptyOf

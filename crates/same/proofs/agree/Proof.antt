@@ -1,9 +1,9 @@
 -- `agree` meets its contract, number by number. Assumes nothing.
 use Rattle.word.proofs.Signed.{ofZ-ne, eqb-ofZ}
-use Rattle.build.specs.Entry.{equal}
-use Rattle.build.proofs.Entries.{alike}
-use Rattle.build.proofs.agree.Statement.{statement}
-use Rattle.build.proofs.agree.Tie as tie
+use Rattle.same.specs.Equal.{equal}
+use Rattle.same.proofs.Checked.{alike}
+use Rattle.same.proofs.agree.Statement.{statement}
+use Rattle.same.proofs.agree.Tie as tie
 
 returns : tie.Need-returns
 unfolding equal

@@ -4,10 +4,10 @@ use Prim.Native.Nat.{_+_, _*_}
 use native.Mathlib.Omega.{arith}
 use Rattle.summary.specs.Stretch.{summaryOf}
 use Rattle.summary.specs.Join.{emptyOf}
-use Rattle.build.proofs.Blocks.{block-to, block-past}
+use Rattle.entry.proofs.Blocks.{block-to, block-past}
 use borrow.Author.Needs.{needs}
-use Rattle.build.proofs.block.Statement.{statement}
-use Rattle.build.proofs.block.Tie as tie
+use Rattle.entry.proofs.block.Statement.{statement}
+use Rattle.entry.proofs.block.Tie as tie
 
 mul-from : tie.Need-mul-from
 mul-from c = search needs

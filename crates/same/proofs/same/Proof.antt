@@ -4,10 +4,11 @@ use Prim.Native.Nat.{_+_, _-_}
 use native.Mathlib.Omega.{arith}
 use borrow.Author.Needs.{needs}
 use borrow.Author.Tests.{not-true, not-false}
-use Rattle.build.specs.Entry.{Known}
-use Rattle.build.proofs.Entries.{few-leaves, room, same-none, same-next, same-not, same-all}
-use Rattle.build.proofs.same.Statement.{statement}
-use Rattle.build.proofs.same.Tie as tie
+use Rattle.entry.specs.Known.{Known}
+use Rattle.entry.proofs.Entries.{few-leaves, room}
+use Rattle.same.proofs.Checked.{same-none, same-next, same-not, same-all}
+use Rattle.same.proofs.same.Statement.{statement}
+use Rattle.same.proofs.same.Tie as tie
 
 abbrev Inv-loop : tie.InvT-loop
 Inv-loop bytes m index l k₀ k = Known bytes m l index k
