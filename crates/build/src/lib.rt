@@ -40,7 +40,7 @@ fn refused(bytes: &[u8], m: u32, room: usize) -> u32
     if bytes.len() < judge::bytes_of(m) {
         return 2;
     }
-    if room < 8 * index::leaves(m) {
+    if room < index::numbers_of(m) {
         return 3;
     }
     if !balanced(bytes, m) {

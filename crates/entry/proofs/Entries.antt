@@ -13,14 +13,10 @@ use Rattle.summary.specs.Join.{joinOf, emptyOf}
 use Rattle.summary.specs.Bound.{Bounded}
 use Rattle.index.specs.Shape.{block, height, entry}
 use Rattle.index.specs.Lent.{entryAt}
-use Rattle.index.proofs.Height.{leaves-few, numbers-are}
+use Rattle.index.proofs.Height.{few-leaves, numbers-are}
 use Rattle.index.proofs.Entry.{entry-zero, entry-leaf, entry-joins, entry-bounded}
 use Rattle.entry.specs.Known.{Lent, Known}
 
-pub few-leaves : (m l : ℕ) → m ≤ 2097152 → l ≡ 2 ^ height m → l ≤ 8192
-few-leaves m l h e = omega (arith, e, leaves-few m h)
-
--- ---- one entry
 module _ (bytes : List ℕ) (m l : ℕ) (idx : List ℤ) (k : ℕ) (known : Known bytes m l idx k) where
   pub few : l ≤ 8192
   few = few-leaves m l (known .lent .size) (known .leaves)

@@ -51,6 +51,9 @@ height-small m l = height-least m 13 (omega arith)
 pub leaves-few : (m : ℕ) → m ≤ 2097152 → 2 ^ height m ≤ 8192
 leaves-few m l = pow-le-pow-right (omega arith) (height-small m l)
 
+pub few-leaves : (m l : ℕ) → m ≤ 2097152 → l ≡ 2 ^ height m → l ≤ 8192
+few-leaves m l h e = omega (arith, e, leaves-few m h)
+
 -- 8L numbers
 pub numbers-are : (m : ℕ) → numbersOf m ≡ 8 * 2 ^ height m
 unfolding numbersOf

@@ -3,11 +3,11 @@ ghost use mathlib.Core.Path.{_≡_};
 ghost use Prim.Native.Nat.{_+_, _*_, _^_, _≤_, _<_};
 ghost use lib.ListN.{length};
 ghost use lib.Seq.{sets};
-ghost use Rattle.index.specs.Shape.{height};
+ghost use Rattle.index.specs.Shape.{height, numbersOf};
 ghost use Rattle.index.specs.Lent.{entryAt, four};
 use summary::Summary;
 
-// Entry k. Only `read` and `put` know the record's width.
+// Entry k. Only `read`, `put` and `numbers_of` know the record's width.
 pub fn read(index: &[i32], k: usize) -> Summary
     requires { ⌜ 4 * k + 3 < length (now index) ⌝ }
     ensures { λ r. ⌜ r ≡ entryAt (now (index .entry)) k ⌝ }
@@ -45,4 +45,12 @@ pub fn leaves(m: u32) -> usize
         l *= 2;
     }
     l
+}
+
+// 8L, how many numbers the index takes.
+pub fn numbers_of(m: u32) -> usize
+    requires { ⌜ m ≤ 2097152 ⌝ }
+    ensures { λ r. ⌜ r ≡ numbersOf m ⌝ }
+{
+    8 * leaves(m)
 }

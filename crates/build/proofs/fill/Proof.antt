@@ -3,7 +3,8 @@ use mathlib.Core.Path.{_≡_}
 use Prim.Native.Nat.{_+_, _-_}
 use native.Mathlib.Omega.{arith}
 use borrow.Author.Needs.{needs}
-use Rattle.entry.proofs.Entries.{few-leaves, room}
+use Rattle.index.proofs.Height.{few-leaves}
+use Rattle.entry.proofs.Entries.{room}
 use Rattle.build.proofs.Filled.{Filled, fill-none, fill-long, fill-known, fill-next, fill-all}
 use Rattle.build.proofs.fill.Statement.{statement}
 use Rattle.build.proofs.fill.Tie as tie
@@ -38,13 +39,13 @@ loop-less c = search needs
 loop-again : tie.Need-loop-again Inv-loop μ-loop
 loop-again c =
     let b = c .before .before .before .before .before in
-    fill-next _ _ _ _ _ _ _ _ (b .before .loop .inv) (b .loop-test .taken) (c .before .before .before .own .ensures) (c .before .put .ensures)
+    fill-next _ _ _ _ _ _ _ _ (b .before .loop .inv) (omega arith) (c .before .before .before .own .ensures) (c .before .put .ensures)
 
 same-length : tie.Need-same-length Inv-loop μ-loop
 same-length c = fill-long _ _ _ _ _ _ (c .before .loop .inv)
 
 returns : tie.Need-returns Inv-loop μ-loop
-returns c = fill-all _ _ _ _ _ _ (c .before .loop .inv) (c .loop-test .left)
+returns c = fill-all _ _ _ _ _ _ (c .before .loop .inv) (omega arith)
 
 pub fill-spec : {M : Type 1} → statement M
 fill-spec =

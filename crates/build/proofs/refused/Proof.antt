@@ -1,11 +1,9 @@
 -- `refused` meets its contract: the tests in document 01's order. Assumes nothing.
-use mathlib.Core.Path.{sym, ap, _∙_}
+use mathlib.Core.Path.{sym, _∙_}
 use native.Mathlib.Omega.{arith}
-use borrow.Author.Tests.{not-true, not-false}
-use Rattle.index.proofs.Height.{numbers-are}
-use Rattle.entry.proofs.Entries.{few-leaves}
-use Rattle.build.proofs.Refusal.{refused-1, refused-2, refused-3, judging}
 use borrow.Author.Needs.{needs}
+use borrow.Author.Tests.{not-true, not-false}
+use Rattle.build.proofs.Refusal.{refused-1, refused-2, refused-3, judging}
 use Rattle.build.proofs.refused.Statement.{statement}
 use Rattle.build.proofs.refused.Tie as tie
 
@@ -18,27 +16,22 @@ bytes-of-requires c κs = search needs
 returns-2 : tie.Need-returns-2
 returns-2 c = refused-2 _ _ _ (c .before .before .if1 .left) (omega arith)
 
-leaves-requires : tie.Need-leaves-requires
-leaves-requires c κs = search needs
-
-mul-if3 : tie.Need-mul-if3
-mul-if3 c = omega (arith, few-leaves _ _ (c .before .before .before .if1 .left) (c .leaves .ensures))
+numbers-of-requires : tie.Need-numbers-of-requires
+numbers-of-requires c κs = search needs
 
 returns-3 : tie.Need-returns-3
-returns-3 c = let a = c .before .before .before .before in refused-3 _ _ _ (a .if1 .left) (omega arith) (omega (arith, numbers-are (a .before .before .args .m)))
+returns-3 c = refused-3 _ _ _ (c .before .before .before .before .if1 .left) (omega arith) (omega arith)
 
 balanced-requires : tie.Need-balanced-requires
 balanced-requires c κs = search needs
 
 returns-4 : tie.Need-returns-4
 returns-4 c =
-    let a = c .before .before .before .before .before .before in
-    sym (judging _ _ _ (a .if1 .left) (omega arith) (omega (arith, numbers-are (a .before .before .args .m))) ∙ rw (sym (c .before .balanced .ensures) ∙ not-true _ (c .if4 .taken)))
+    sym (judging _ _ _ (c .before .before .before .before .before .before .if1 .left) (omega arith) (omega arith) ∙ rw (sym (c .before .balanced .ensures) ∙ not-true _ (c .if4 .taken)))
 
 returns-5 : tie.Need-returns-5
 returns-5 c =
-    let a = c .before .before .before .before .before .before in
-    sym (judging _ _ _ (a .if1 .left) (omega arith) (omega (arith, numbers-are (a .before .before .args .m))) ∙ rw (sym (c .before .balanced .ensures) ∙ not-false _ (c .if4 .left)))
+    sym (judging _ _ _ (c .before .before .before .before .before .before .if1 .left) (omega arith) (omega arith) ∙ rw (sym (c .before .balanced .ensures) ∙ not-false _ (c .if4 .left)))
 
 pub refused-spec : {M : Type 1} → statement M
 refused-spec =
@@ -47,8 +40,7 @@ refused-spec =
     returns
     bytes-of-requires
     returns-2
-    leaves-requires
-    mul-if3
+    numbers-of-requires
     returns-3
     balanced-requires
     returns-4

@@ -26,10 +26,10 @@ loop-less : tie.Need-loop-less Inv-loop μ-loop
 loop-less c = omega (arith, tried-some _ _ (c .before .loop .inv))
 
 loop-again : tie.Need-loop-again Inv-loop μ-loop
-loop-again c = tried-more _ _ (c .before .loop .inv) (c .loop-test .taken)
+loop-again c = tried-more _ _ (c .before .loop .inv) (omega arith)
 
 returns : tie.Need-returns Inv-loop μ-loop
-returns c = tried-enough _ _ (c .before .loop .inv) (c .loop-test .left)
+returns c = tried-enough _ _ (c .before .loop .inv) (omega arith)
 
 pub leaves-spec : {M : Type 1} → statement M
 leaves-spec =

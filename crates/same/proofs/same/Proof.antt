@@ -5,7 +5,8 @@ use native.Mathlib.Omega.{arith}
 use borrow.Author.Needs.{needs}
 use borrow.Author.Tests.{not-true, not-false}
 use Rattle.entry.specs.Known.{Known}
-use Rattle.entry.proofs.Entries.{few-leaves, room}
+use Rattle.index.proofs.Height.{few-leaves}
+use Rattle.entry.proofs.Entries.{room}
 use Rattle.same.proofs.Checked.{same-none, same-next, same-not, same-all}
 use Rattle.same.proofs.same.Statement.{statement}
 use Rattle.same.proofs.same.Tie as tie
@@ -40,7 +41,7 @@ agree-requires c κs = search needs
 returns : tie.Need-returns Inv-loop μ-loop
 returns c =
     let b = c .before .before .before .before in
-    same-not _ _ _ _ _ _ _ (b .before .loop .inv) (b .loop-test .taken) (c .before .before .before .own .ensures) (c .before .before .read .ensures) (sym (c .before .agree .ensures) ∙ not-true _ (c .if1 .taken))
+    same-not _ _ _ _ _ _ _ (b .before .loop .inv) (omega arith) (c .before .before .before .own .ensures) (c .before .before .read .ensures) (sym (c .before .agree .ensures) ∙ not-true _ (c .if1 .taken))
 
 loop-less : tie.Need-loop-less Inv-loop μ-loop
 loop-less c = search needs
@@ -48,10 +49,10 @@ loop-less c = search needs
 loop-again : tie.Need-loop-again Inv-loop μ-loop
 loop-again c =
     let b = c .before .before .before .before in
-    same-next _ _ _ _ _ _ _ (b .before .loop .inv) (b .loop-test .taken) (c .before .before .before .own .ensures) (c .before .before .read .ensures) (sym (c .before .agree .ensures) ∙ not-false _ (c .if1 .left))
+    same-next _ _ _ _ _ _ _ (b .before .loop .inv) (omega arith) (c .before .before .before .own .ensures) (c .before .before .read .ensures) (sym (c .before .agree .ensures) ∙ not-false _ (c .if1 .left))
 
 returns-2 : tie.Need-returns-2 Inv-loop μ-loop
-returns-2 c = same-all _ _ _ _ _ (c .before .loop .inv) (c .loop-test .left)
+returns-2 c = same-all _ _ _ _ _ (c .before .loop .inv) (omega arith)
 
 pub same-spec : {M : Type 1} → statement M
 same-spec =
