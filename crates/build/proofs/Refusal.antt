@@ -12,7 +12,7 @@ use lib.Seq.{sets}
 use Rattle.word.specs.Bits.{word, bytesOf}
 use Rattle.word.specs.Parse.{isBalanced}
 use Rattle.judge.specs.declared.Outcome.{Outcome}
-use Rattle.judge.specs.First.{firstOf}
+use Rattle.judge.proofs.First.{passed}
 use Rattle.index.specs.Shape.{height, numbersOf, index}
 use Rattle.entry.specs.Known.{Lent}
 use Rattle.build.specs.Build.{refusal, builtOutcome, builtIndex, Built}
@@ -36,10 +36,6 @@ module _ (bytes : List ℕ) (m room : ℕ) where
       pub judging : numbersOf m ≤ room → refusal bytes m room ≡ cond (not (isBalanced (word bytes m))) 6 0
       unfolding refusal
       judging d = simp (le-ltb 2097152 m a, le-ltb (length bytes) (bytesOf m) b, le-ltb room (numbersOf m) d)
-
-passed : (t : Bool) (n r : ℕ) → cond t (suc n) r ≡ 0 → (t ≡ false) × (r ≡ 0)
-passed true n r e = absurd (omega arith)
-passed false n r e = (refl, e)
 
 -- where none holds
 pub accepted : (bytes : List ℕ) (m : ℕ) (held : List ℤ) → refusal bytes m (length held) ≡ 0 → Lent bytes m held × (isBalanced (word bytes m) ≡ true)

@@ -1,41 +1,34 @@
 -- What building gives back and writes, from the arguments alone.
 use mathlib.Core.Path.{_≡_}
-use mathlib.Core.Bool.{not}
+use mathlib.Core.Bool.{Bool}
 use mathlib.Core.List.{List, [], _∷_}
 use Prim.Native.Nat.{ℕ, zero, suc, _/_}
 use lib.Dec.{ltb}
 use lib.IntN.{ℤ}
 use lib.ListN.{length}
 use lib.Seq.{sets}
-use Rattle.word.specs.Bits.{word, bytesOf}
-use Rattle.word.specs.Parse.{isBalanced}
+use Rattle.word.specs.Bits.{word}
 use Rattle.judge.specs.declared.Outcome.{Outcome}
 use Rattle.judge.specs.First.{firstOf}
+use Rattle.judge.specs.Judge.{tooLong, tooFewBytes, unbalanced, outcomeOf}
 use Rattle.index.specs.Shape.{height, numbersOf, index}
 
--- "Building checks 1, 2, 3, 6": "m > 2,097,152", "fewer than ceil(m/8) bytes lent", "fewer than 8L index numbers lent", "word not balanced"
-unfoldable pub refusal : List ℕ → ℕ → ℕ → ℕ
-refusal bytes m room =
-    firstOf
-    ((ltb 2097152 m, 1)
-    ∷ (ltb (length bytes) (bytesOf m), 2)
-    ∷ (ltb room (numbersOf m), 3)
-    ∷ (not (isBalanced (word bytes m)), 6)
-    ∷ [])
+-- 3, "fewer than 8L index numbers lent"
+abbrev pub tooFewNumbers : ℕ → ℕ → Bool
+tooFewNumbers m room = ltb room (numbersOf m)
 
--- "returns a code with n"; "Refusals 1 to 7 return 0 beside the code"
-abbrev pub outcome : ℕ → ℕ → Outcome
-outcome zero n = record { code = 0; value = n }
-outcome (suc c) n = record { code = suc c; value = 0 }
+-- "Building checks 1, 2, 3, 6"
+unfoldable pub refusal : List ℕ → ℕ → ℕ → ℕ
+refusal bytes m room = firstOf ((tooLong m, 1) ∷ (tooFewBytes bytes m, 2) ∷ (tooFewNumbers m room, 3) ∷ (unbalanced bytes m, 6) ∷ [])
 
 -- ".. and write nothing"
 abbrev pub written : ℕ → List ℤ → List ℤ → List ℤ
 written zero now held = now
 written (suc c) now held = held
 
--- "an ordered forest of n = m/2 nodes"
+-- "returns a code with n", "an ordered forest of n = m/2 nodes"
 unfoldable pub builtOutcome : List ℕ → ℕ → List ℤ → Outcome
-builtOutcome bytes m held = outcome (refusal bytes m (length held)) (m / 2)
+builtOutcome bytes m held = outcomeOf (refusal bytes m (length held)) (m / 2)
 
 -- the index, written over the first 8L numbers of what the slice held; "later ones are neither read nor written"
 unfoldable pub builtIndex : List ℕ → ℕ → List ℤ → List ℤ

@@ -1,10 +1,7 @@
 // Building: the refusals in their order, then the index filled into the lent slice, from the last entry to entry 0.
 ghost use mathlib.Core.Path.{_≡_};
-ghost use Prim.Native.Nat.{_≤_};
-ghost use lib.ListN.{length};
 ghost use lib.Seq.{sets};
-ghost use Rattle.word.specs.Bits.{word, bytesOf};
-ghost use Rattle.word.specs.Parse.{isBalanced};
+ghost use Rattle.word.specs.Bits.{word};
 ghost use Rattle.index.specs.Shape.{height, index as Spec·index};
 ghost use Rattle.entry.specs.Known.{Lent};
 ghost use Rattle.build.specs.Build.{refusal, Built};
@@ -23,13 +20,6 @@ fn fill(bytes: &[u8], m: u32, index: &mut [i32])
     }
 }
 
-fn balanced(bytes: &[u8], m: u32) -> bool
-    requires { ⌜ (m ≤ 2097152) × (bytesOf m ≤ length (now bytes)) ⌝ }
-    ensures { λ r. ⌜ r ≡ isBalanced (word (now (bytes .entry)) m) ⌝ }
-{
-    true
-}
-
 // The number of the first refusal, or 0.
 fn refused(bytes: &[u8], m: u32, room: usize) -> u32
     ensures { λ r. ⌜ r ≡ refusal (now (bytes .entry)) m room ⌝ }
@@ -43,7 +33,7 @@ fn refused(bytes: &[u8], m: u32, room: usize) -> u32
     if room < index::numbers_of(m) {
         return 3;
     }
-    if !balanced(bytes, m) {
+    if !judge::balanced(bytes, m) {
         return 6;
     }
     0

@@ -42,8 +42,8 @@ unfolding equal
 equal-self x y e = rw e (simp eqZ-refl)
 
 module _ (bytes : List ℕ) (m l : ℕ) (idx : List ℤ) where
-  pub same-none : Lent bytes m idx → l ≡ 2 ^ height m → Known bytes m l idx (2 * l)
-  same-none h e = record { lent = h; leaves = e; inside = omega arith; reads = λ j a b. absurd (omega arith) }
+  pub same-none : (k : ℕ) → Lent bytes m idx → l ≡ 2 ^ height m → k ≡ 2 * l → Known bytes m l idx k
+  same-none k h e z = record { lent = h; leaves = e; inside = omega arith; reads = λ j a b. absurd (omega arith) }
 
   module _ (k : ℕ) (x s : Summary) (known : Known bytes m l idx k) (more : 0 < k) (is : s ≡ entry (height m) (word bytes m) (k - 1)) (read : x ≡ entryAt idx (k - 1)) where
     pub same-next : equal x s ≡ true → Known bytes m l idx (k - 1)

@@ -24,7 +24,7 @@ mul-k : tie.Need-mul-k Inv-loop μ-loop
 mul-k c = omega (arith, few-leaves _ _ (c .before .before .pre .size) (c .leaves .ensures))
 
 loop-holds : tie.Need-loop-holds Inv-loop μ-loop
-loop-holds c = same-none _ _ _ _ (c .before .before .pre) (c .leaves .ensures)
+loop-holds c = same-none _ _ _ _ _ (c .before .before .pre) (c .leaves .ensures) (omega arith)
 
 sub-k : tie.Need-sub-k Inv-loop μ-loop
 sub-k c = search needs
