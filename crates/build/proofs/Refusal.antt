@@ -1,9 +1,8 @@
 -- The refusals of building in their order, and the two ways it ends. Assumes nothing.
-use mathlib.Core.Path.{_≡_, refl, sym, ap, _∙_}
-use mathlib.Core.Bool.{Bool, true, false, cond, not}
+use mathlib.Core.Path.{_≡_, refl, sym, _∙_}
+use mathlib.Core.Bool.{true, cond, not}
 use mathlib.Core.List.{List}
 use Prim.Native.Nat.{ℕ, zero, suc, _/_, _≤_, _<_}
-use native.Mathlib.Omega.{arith}
 use borrow.Author.Tests.{lt-ltb, le-ltb, ltb-false, not-false}
 use lib.Dec.{ltb}
 use lib.IntN.{ℤ}
@@ -11,7 +10,6 @@ use lib.ListN.{length}
 use lib.Seq.{sets}
 use Rattle.word.specs.Bits.{word, bytesOf}
 use Rattle.word.specs.Parse.{isBalanced}
-use Rattle.judge.specs.declared.Outcome.{Outcome}
 use Rattle.judge.proofs.First.{passed}
 use Rattle.index.specs.Shape.{height, numbersOf, index}
 use Rattle.entry.specs.Known.{Lent}

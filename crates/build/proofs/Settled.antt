@@ -1,20 +1,24 @@
 -- What the promise of building settles: everything; and the index that is checked is the one that is built. Assumes nothing.
-use mathlib.Core.Path.{_≡_, refl, sym, ap, _∙_}
+use mathlib.Core.Path.{_≡_, sym, ap, _∙_}
 use mathlib.Core.Logic.{_↔_}
-use mathlib.Core.Bool.{Bool, true}
-use mathlib.Core.List.{List, [], _∷_, _++_}
-use Prim.Native.Nat.{ℕ, zero, suc, _+_, _*_, _^_, _≤_}
+use mathlib.Core.Bool.{true}
+use mathlib.Core.List.{List, _++_}
+use Prim.Native.Nat.{ℕ, _+_, _/_}
 use native.Mathlib.Omega.{arith}
 use lib.IntN.{ℤ}
 use lib.ListN.{length, take, drop, take-append-drop}
-use lib.Seq.{sets, sets-eq, take-at, drop-at}
+use lib.Seq.{sets-eq, take-at}
 use Rattle.word.specs.Bits.{word}
+use Rattle.word.specs.Parse.{forestOf}
+use Rattle.word.specs.Questions.{size}
+use Rattle.word.proofs.Bits.{length-bits}
+use Rattle.word.proofs.ByDepth.{size-length}
+use Rattle.word.proofs.Parse.{encode-forestOf}
 use Rattle.judge.specs.declared.Outcome.{Outcome}
 use Rattle.index.specs.Shape.{height, numbersOf, index}
 use Rattle.index.specs.Lent.{isIndex}
 use Rattle.index.proofs.Height.{numbers-are}
 use Rattle.index.proofs.Numbers.{index-long, is-index}
-use Rattle.entry.specs.Known.{Lent}
 use Rattle.build.specs.Build.{refusal, builtIndex, Built}
 use Rattle.build.proofs.Refusal.{accepted}
 
@@ -46,3 +50,7 @@ module _ (bytes : List ℕ) (m : ℕ) (held : List ℤ) (ok : refusal bytes m (l
     (λ e. built-is ∙ ap (_++ drop (numbersOf m) held) (sym (first held .0 e)) ∙ take-append-drop (numbersOf m) held),
     λ e. ap (isIndex (height m) (word bytes m)) (sym e) ∙ built-checked,
   )
+
+  -- the number beside code 0 is that of the forest's nodes
+  pub built-nodes : size (forestOf (word bytes m)) ≡ m / 2
+  built-nodes = omega (arith, size-length (forestOf (word bytes m)), ap length (encode-forestOf (word bytes m) (accepted bytes m held ok .1)), length-bits bytes 0 m)

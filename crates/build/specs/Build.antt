@@ -1,9 +1,7 @@
 -- What building gives back and writes, from the arguments alone.
 use mathlib.Core.Path.{_≡_}
-use mathlib.Core.Bool.{Bool}
 use mathlib.Core.List.{List, [], _∷_}
 use Prim.Native.Nat.{ℕ, zero, suc, _/_}
-use lib.Dec.{ltb}
 use lib.IntN.{ℤ}
 use lib.ListN.{length}
 use lib.Seq.{sets}
@@ -11,17 +9,14 @@ use Rattle.word.specs.Bits.{word}
 use Rattle.judge.specs.declared.Outcome.{Outcome}
 use Rattle.judge.specs.First.{firstOf}
 use Rattle.judge.specs.Judge.{tooLong, tooFewBytes, unbalanced, outcomeOf}
-use Rattle.index.specs.Shape.{height, numbersOf, index}
-
--- 3, "fewer than 8L index numbers lent"
-abbrev pub tooFewNumbers : ℕ → ℕ → Bool
-tooFewNumbers m room = ltb room (numbersOf m)
+use Rattle.index.specs.Shape.{height, index}
+use Rattle.index.specs.Lent.{tooFewNumbers}
 
 -- "Building checks 1, 2, 3, 6"
 unfoldable pub refusal : List ℕ → ℕ → ℕ → ℕ
 refusal bytes m room = firstOf ((tooLong m, 1) ∷ (tooFewBytes bytes m, 2) ∷ (tooFewNumbers m room, 3) ∷ (unbalanced bytes m, 6) ∷ [])
 
--- ".. and write nothing"
+-- "Refusals 1 to 7 .. write nothing."
 abbrev pub written : ℕ → List ℤ → List ℤ → List ℤ
 written zero now held = now
 written (suc c) now held = held

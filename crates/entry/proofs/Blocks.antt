@@ -1,11 +1,10 @@
 -- A block of the word, as bits of the lent bytes. Assumes nothing.
-use mathlib.Core.Path.{_≡_, refl, sym, ap, _∙_}
-use mathlib.Core.List.{List, []}
-use Prim.Native.Nat.{ℕ, _+_, _-_, _*_, _≤_, min}
+use mathlib.Core.Path.{_≡_, sym, ap, _∙_}
+use mathlib.Core.List.{List}
+use Prim.Native.Nat.{ℕ, _-_, _*_, _≤_, min}
 use native.Mathlib.Omega.{arith}
 use Rattle.word.specs.Bits.{bits, word}
 use Rattle.word.proofs.Bits.{part-bits}
-use Rattle.summary.specs.declared.Summary.{Summary}
 use Rattle.summary.specs.Stretch.{summaryOf}
 use Rattle.summary.specs.Join.{emptyOf}
 use Rattle.summary.proofs.Append.{summary-empty}

@@ -1,7 +1,7 @@
 -- Entry k worked out from the entries past it. Assumes nothing.
 use mathlib.Core.Path.{_≡_, sym, ap, ap₂, _∙_}
 use mathlib.Core.List.{List}
-use Prim.Native.Nat.{ℕ, _+_, _-_, _*_, _^_, _≤_, _<_}
+use Prim.Native.Nat.{ℕ, _+_, _-_, _*_, _≤_, _<_}
 use native.Mathlib.Omega.{arith}
 use lib.ListN.{length}
 use lib.IntN.{ℤ}
@@ -15,7 +15,7 @@ use Rattle.index.specs.Shape.{block, height, entry}
 use Rattle.index.specs.Lent.{entryAt}
 use Rattle.index.proofs.Height.{few-leaves, numbers-are}
 use Rattle.index.proofs.Entry.{entry-zero, entry-leaf, entry-joins, entry-bounded}
-use Rattle.entry.specs.Known.{Lent, Known}
+use Rattle.entry.specs.Known.{Known}
 
 module _ (bytes : List ℕ) (m l : ℕ) (idx : List ℤ) (k : ℕ) (known : Known bytes m l idx k) where
   pub few : l ≤ 8192

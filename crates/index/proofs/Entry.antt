@@ -1,5 +1,5 @@
 -- Every entry stands on some level; so each is what document 01 says of it, and its numbers are small. Assumes nothing.
-use mathlib.Core.Path.{_≡_, refl, sym, ap, ap₂, _∙_}
+use mathlib.Core.Path.{_≡_, refl, sym, _∙_}
 use mathlib.Core.Bool.{Bool}
 use mathlib.Core.List.{List, []}
 use Prim.Native.Nat.{ℕ, zero, suc, _+_, _-_, _*_, _^_, _≤_, _<_}
@@ -7,7 +7,7 @@ use native.Mathlib.Omega.{arith}
 use native.Mathlib.Decide.{decLt}
 use native.Mathlib.Nat.{two-pow-succ, one-le-pow}
 use lib.ListN.{length, take, drop, getD, length-take, length-drop}
-use lib.IntN.{ℤ, pos, natAbs}
+use lib.IntN.{pos, natAbs}
 use mir.Syntax.{w32}
 use mir.Val.{SFits}
 use Rattle.word.proofs.Signed.{zarith, abs-law}
@@ -17,7 +17,7 @@ use Rattle.summary.specs.Join.{joinOf, emptyOf}
 use Rattle.summary.specs.Bound.{Bounded}
 use Rattle.summary.proofs.Append.{summary-empty}
 use Rattle.summary.proofs.Bounds.{summary-bounded}
-use Rattle.index.specs.Shape.{block, entryBy, entry, indexFrom, index}
+use Rattle.index.specs.Shape.{block, entry, indexFrom, index}
 use Rattle.index.proofs.Level.{Level, level-low, level-left, level-right, twice, leaf, both, entry-is}
 
 -- the level of entry k, and the block a where its stretch starts

@@ -1,13 +1,11 @@
 -- Document 01's examples of the index, shown of the definitions. Assumes nothing.
 use mathlib.Core.Path.{_≡_, refl}
-use mathlib.Core.Bool.{Bool, true, false, cond}
+use mathlib.Core.Bool.{Bool, true, false}
 use mathlib.Core.List.{List, [], _∷_, _++_}
-use Prim.Native.Nat.{ℕ}
 use lib.ListN.{replicate}
-use lib.IntN.{ℤ, pos, negsuc}
+use lib.IntN.{pos, negsuc}
 use Rattle.word.specs.Bits.{word}
 use Rattle.word.specs.Signed.{minZ, maxZ, eqZ}
-use Rattle.summary.specs.declared.Summary.{Summary}
 use Rattle.summary.specs.Stretch.{depthOf, depths, leastOf, greatestOf, howMany, summaryOf}
 use Rattle.summary.specs.Join.{at, joined, joinOf, emptyOf}
 use Rattle.index.specs.Shape.{heightFrom, height, entryBy, entry, indexFrom, index, numbersOf}

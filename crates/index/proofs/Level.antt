@@ -1,18 +1,18 @@
 -- Where an entry stands in the index, and the stretch that it sums up. Assumes nothing.
-use mathlib.Core.Path.{_≡_, refl, sym, ap, ap₂, subst, _∙_}
-use mathlib.Core.Bool.{Bool, true, false, cond, not}
-use mathlib.Core.List.{List, [], _∷_, _++_}
+use mathlib.Core.Path.{_≡_, refl, sym, ap, subst, _∙_}
+use mathlib.Core.Bool.{Bool, true, false, not}
+use mathlib.Core.List.{List, _++_}
 use Prim.Native.Nat.{ℕ, zero, suc, _+_, _-_, _*_, _/_, _%_, _^_, _≤_, _<_}
 use native.Mathlib.Omega.{arith}
-use native.Mathlib.Nat.{two-pow-succ, pow-zero, one-le-pow, mul-le-mul-right, mul-le-mul-left}
+use native.Mathlib.Nat.{two-pow-succ, one-le-pow, mul-le-mul-right, mul-le-mul-left}
 use lib.Pow.{pow-add}
-use lib.Dec.{T, eqb, eqb→eq, eqb-refl, leb, le→leb, leb→le, nleb→lt}
-use lib.ListN.{length, take, drop, length-take, length-drop}
-use lib.Seq.{take-add, drop-drop, take-take}
+use lib.Dec.{T, eqb, eqb→eq, leb, le→leb, leb→le, nleb→lt}
+use lib.ListN.{take, drop}
+use lib.Seq.{take-add, drop-drop}
 use Rattle.summary.specs.declared.Summary.{Summary}
 use Rattle.word.proofs.Signed.{T-true, true-T, not-true}
 use Rattle.summary.specs.Stretch.{summaryOf}
-use Rattle.summary.specs.Join.{joinOf, emptyOf}
+use Rattle.summary.specs.Join.{joinOf}
 use Rattle.summary.proofs.Append.{summary-append}
 use Rattle.index.specs.Shape.{block, entryBy, entry}
 use Rattle.index.specs.Shape.{even}

@@ -1,16 +1,15 @@
 -- The numbers lent are the word's index exactly where reading them gives its entries. Assumes nothing.
-use mathlib.Core.Path.{_≡_, refl, sym, ap, ap₂, subst, _∙_}
-use mathlib.Core.Bool.{Bool, true, false, cond}
-use mathlib.Core.List.{List, [], _∷_, _++_}
-use mathlib.Core.Option.{Option, none, some}
-use Prim.Native.Nat.{ℕ, zero, suc, _+_, _-_, _*_, _/_, _%_, _^_, _≤_, _<_}
+use mathlib.Core.Path.{_≡_, refl, sym, ap, ap₂, _∙_}
+use mathlib.Core.Bool.{Bool, true}
+use mathlib.Core.List.{List, [], _∷_}
+use Prim.Native.Nat.{ℕ, zero, suc, _+_, _*_, _^_, _≤_, _<_}
 use native.Mathlib.Omega.{arith}
 use mathlib.Core.Logic.{_↔_}
 use Rattle.word.specs.Signed.{eqZ}
 use Rattle.word.proofs.Signed.{zarith, true≢false, by-test, eqZ-refl}
-use lib.ListN.{length, take, drop, getD, length-take}
+use lib.ListN.{length, take, getD, length-take}
 use lib.Seq.{getD-take}
-use lib.IntN.{ℤ, pos, negsuc}
+use lib.IntN.{ℤ, pos}
 use Rattle.summary.specs.declared.Summary.{Summary}
 use Rattle.summary.proofs.Join.{same}
 use Rattle.index.specs.Shape.{entry, indexFrom, index}
@@ -88,3 +87,7 @@ index-long h w = omega (arith, length-index (2 * 2 ^ h) (entry h w) 0)
 pub is-index : (h : ℕ) (w : List Bool) (idx : List ℤ) → (isIndex h w idx ≡ true) ↔ (take (8 * 2 ^ h) idx ≡ index h w)
 unfolding isIndex
 is-index h w idx = (λ e. rw (index-long h w) at (begins-yes (index h w) idx e), λ e. begins-no (index h w) idx (rw (index-long h w) e))
+
+-- so each entry read from a slice that passes is the word's own
+pub tested : (h : ℕ) (w : List Bool) (idx : List ℤ) → isIndex h w idx ≡ true → Indexed h w idx
+tested h w idx e = indexed h w idx (is-index h w idx .0 e)

@@ -15,9 +15,9 @@ use Rattle.word.proofs.Signed.{zarith, by-test, not-true, true≢false, eqZ-ref
 use Rattle.summary.specs.declared.Summary.{Summary}
 use Rattle.summary.proofs.Join.{same}
 use Rattle.index.specs.Shape.{height, entry}
-use Rattle.index.specs.Lent.{entryAt, Indexed, isIndex}
+use Rattle.index.specs.Lent.{entryAt, isIndex}
 use Rattle.index.proofs.Height.{numbers-are}
-use Rattle.index.proofs.Numbers.{indexed, whole, is-index}
+use Rattle.index.proofs.Numbers.{whole, is-index, tested}
 use Rattle.entry.specs.Known.{Lent, Known}
 use Rattle.same.specs.Equal.{equal}
 
@@ -54,10 +54,7 @@ module _ (bytes : List ℕ) (m l : ℕ) (idx : List ℤ) where
         by j a b (no z) = let y : k - 1 ≡ j = omega arith in rw (← y) (sym read ∙ equal-yes x s e ∙ is)
 
     pub same-not : equal x s ≡ false → false ≡ isIndex (height m) (word bytes m) idx
-    same-not e = sym (not-true _ (λ t. true≢false (sym (equal-self x s (read ∙ right t .reads (k - 1) (omega (arith, known .inside, known .leaves)) ∙ sym is)) ∙ e)))
-      where
-        right : isIndex (height m) (word bytes m) idx ≡ true → Indexed (height m) (word bytes m) idx
-        right t = indexed (height m) (word bytes m) idx (is-index (height m) (word bytes m) idx .0 t)
+    same-not e = sym (not-true _ (λ t. true≢false (sym (equal-self x s (read ∙ tested (height m) (word bytes m) idx t .reads (k - 1) (omega (arith, known .inside, known .leaves)) ∙ sym is)) ∙ e)))
 
   pub same-all : (k : ℕ) → Known bytes m l idx k → k ≤ 0 → true ≡ isIndex (height m) (word bytes m) idx
   same-all k known h = sym (is-index (height m) (word bytes m) idx .1 (whole (height m) (word bytes m) idx (record {

@@ -1,6 +1,5 @@
 -- `own` meets its contract: entry 0, a leaf, or the join of two entries that are known. Assumes nothing.
 use native.Mathlib.Omega.{arith}
-use borrow.Author.Needs.{needs}
 use Rattle.summary.specs.Join.{emptyOf}
 use Rattle.entry.proofs.Entries.{few, room, read-bounded, own-zero, own-leaf, own-joins}
 use Rattle.entry.proofs.own.Statement.{statement}

@@ -1,8 +1,7 @@
 -- `leaves` meets its contract: the power tried is never past L. Assumes nothing.
-use Prim.Native.Nat.{_-_, _≤_}
+use Prim.Native.Nat.{_-_}
 use native.Mathlib.Omega.{arith}
 use borrow.Author.Needs.{needs}
-use Rattle.index.specs.Shape.{blocks as Spec·blocks}
 use Rattle.index.proofs.Height.{Tried, tried-one, tried-more, tried-some, tried-enough}
 use Rattle.index.proofs.leaves.Statement.{statement}
 use Rattle.index.proofs.leaves.Tie as tie
