@@ -64,3 +64,7 @@ odd-refused bytes m o h k = judging bytes m h k false (odd-unbalanced bytes m o)
 pub empty-accepted : (bytes : List ℕ) → judged bytes 0 ≡ record { code = 0; value = 0 }
 unfolding isBalanced parse
 empty-accepted bytes = judging bytes 0 (omega arith) (omega arith) true refl
+
+-- "m = 2,097,152 passes refusal 1; one bit more doesn't."
+pub limit : (tooLong 2097152 ≡ false) × (tooLong 2097153 ≡ true)
+limit = (refl, refl)

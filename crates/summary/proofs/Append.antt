@@ -1,4 +1,4 @@
--- The summary of two words, one after the other, is the join of their summaries.
+-- The summary of two words, one after the other, is the join of their summaries. Assumes nothing.
 use mathlib.Core.Path.{_≡_, refl, sym, _∙_, ap, ap₂}
 use mathlib.Core.Bool.{Bool, true, false, cond}
 use mathlib.Core.List.{List, [], _∷_, _++_, map, append-assoc, append-nil}

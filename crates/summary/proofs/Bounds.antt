@@ -1,4 +1,4 @@
--- Bounds of a word's summary, and depths within a longer word.
+-- Bounds of a word's summary, and depths within a longer word. Assumes nothing.
 use mathlib.Core.Path.{_≡_, refl, _∙_, ap}
 use mathlib.Core.Bool.{Bool, true, false}
 use mathlib.Core.List.{List, [], _∷_}

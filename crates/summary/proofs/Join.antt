@@ -1,4 +1,4 @@
--- Joining is associative, on summaries whose counts are not negative, and the empty summary changes nothing.
+-- Joining is associative, on summaries whose counts are not negative, and the empty summary changes nothing. Assumes nothing.
 use mathlib.Core.Path.{_≡_, refl, sym, _∙_, ap}
 use mathlib.Core.Logic.{_≢_}
 use mathlib.Core.Bool.{false}

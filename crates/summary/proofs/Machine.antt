@@ -1,4 +1,4 @@
--- What `both` computes, as the machine has it: each number is read back from its bits.
+-- What `both` computes, as the machine has it: each number is read back from its bits. Assumes nothing.
 use mathlib.Core.Path.{_≡_, _∙_}
 use Prim.Native.Nat.{_≤_, _<_}
 use lib.IntN.{ℤ, _+ℤ_, natAbs}

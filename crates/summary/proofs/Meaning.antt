@@ -1,4 +1,4 @@
--- What a summary says of its word, for walks.
+-- What a summary says of its stretch, as the walks use it: which depths it reaches, where it ends, how many openings it has. Assumes nothing.
 use mathlib.Core.Path.{_≡_, refl, sym, _∙_, ap}
 use mathlib.Core.Logic.{_↔_}
 use mathlib.Core.Bool.{Bool, true, false, cond}

@@ -1,4 +1,5 @@
--- Bits of the lent bytes, put together: a stretch and what follows it, and a byte's eight. Assumes nothing.
+-- Bits of the lent bytes, put together: a stretch and what follows it, and a byte's eight; and so the loop of `stretch`, a part at a time.
+-- Assumes nothing.
 use mathlib.Core.Path.{_≡_, refl, sym, ap, ap₂, _∙_}
 use mathlib.Core.Bool.{true, false, cond}
 use mathlib.Core.List.{List, [], _∷_, _++_}

@@ -1,3 +1,4 @@
+-- `counted` takes a side's count where that side reaches the least. Assumes nothing.
 use mathlib.Core.Path.{sym, _∙_}
 use mir.Facts.{toZ-ofZ}
 use Rattle.word.proofs.Signed.{zarith, ofZ-eq, ofZ-ne}

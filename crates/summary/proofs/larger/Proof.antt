@@ -1,3 +1,4 @@
+-- `larger` is the larger of two. Assumes nothing.
 use Rattle.word.proofs.Signed.{zarith, i32, max-law}
 use Rattle.summary.proofs.larger.Statement.{statement}
 use Rattle.summary.proofs.larger.Tie as tie

@@ -1,3 +1,4 @@
+-- `smaller` is the smaller of two. Assumes nothing.
 use Rattle.word.proofs.Signed.{zarith, i32, min-law}
 use Rattle.summary.proofs.smaller.Statement.{statement}
 use Rattle.summary.proofs.smaller.Tie as tie
