@@ -36,7 +36,7 @@ module _ (e d : ℕ → Summary) (l : ℕ) (same : (k : ℕ) → k < 2 * l → e
       (λ r. rw r)
       (λ r. rw r (by-test (even k)
       (λ v. let o : k + 1 < 2 * l = omega (arith, even-yes k v) in
-        rw (v, same (k + 1) o, climb-same s (k / 2) (t -ℤ d (k + 1) .total) (n + 1) (omega arith)))
+      rw (v, same (k + 1) o, climb-same s (k / 2) (t -ℤ d (k + 1) .total) (n + 1) (omega arith)))
       (λ v. rw (v, climb-same s (k / 2) t n (omega arith)))))
 
   descend-same : (s k : ℕ) (t : ℤ) (n : ℕ) → descend e l s k t n ≡ descend d l s k t n

@@ -50,7 +50,11 @@ fn beside(index: &[i32], w: Walk) -> Seen
     ensures { λ r. ⌜ r ≡ besideOf (entryAt (now (index .entry))) (w .entry) (w .reads) ⌝ }
 {
     let k = w.entry;
-    if k % 2 == 0 { walk::read(index, k + 1, w.reads) } else { walk::unread(w.reads) }
+    if k % 2 == 0 {
+        walk::read(index, k + 1, w.reads)
+    } else {
+        walk::unread(w.reads)
+    }
 }
 
 // "if its count isn't 0 and least ≤ t ≤ greatest, go down into it, else take its total off t; then halve k."
@@ -80,7 +84,11 @@ fn down(index: &[i32], w: Walk) -> Walk
 {
     let k = w.entry;
     let seen = walk::read(index, 2 * k, w.reads);
-    if walk::holds(seen.summary, w.want) { w.enter(2 * k, seen) } else { w.less(2 * k + 1, seen) }
+    if walk::holds(seen.summary, w.want) {
+        w.enter(2 * k, seen)
+    } else {
+        w.less(2 * k + 1, seen)
+    }
 }
 
 // The way down to a leaf: an entry from l on.

@@ -12,7 +12,6 @@ use Rattle.forward.proofs.Whole.{begin, found-near, found-far}
 use Rattle.forward.proofs.forward.Statement.{statement}
 use Rattle.forward.proofs.forward.Tie as tie
 
-
 end-of-requires : tie.Need-end-of-requires
 end-of-requires c κs = search needs
 

@@ -10,7 +10,6 @@ use Rattle.forward.proofs.Ends.{met, left, block-is, block-none}
 use Rattle.forward.proofs.leaf.Statement.{statement}
 use Rattle.forward.proofs.leaf.Tie as tie
 
-
 sub-b : tie.Need-sub-b
 sub-b c = search needs
 

@@ -5,7 +5,6 @@ use Rattle.forward.proofs.Whole.{footing, hold, low-leaf, no-entry, ent
 use Rattle.forward.proofs.onward.Statement.{statement}
 use Rattle.forward.proofs.onward.Tie as tie
 
-
 climb-requires : tie.Need-climb-requires
 climb-requires c κs = let s = c .before in footing (s .args .bytes .now) (s .args .index .now) (s .args .m) (s .args .l) (s .args .start) (s .pre .0) (s .pre .1)
 

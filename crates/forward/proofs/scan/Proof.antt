@@ -48,9 +48,9 @@ loop-again c = let a = c .before .before .before .before .before in let s = a .b
       omega zarith,
       omega zarith,
       rw (← m) (turn-near (s .args .bytes .now) (s .args .to) (a .loop .i) (toZ w64 (a .loop .t)) (c .before .before .less .result) (c .before .before .before .opens .result)
-      l (c .before .before .less .ok) (c .before .before .before .opens .ensures) (c .before .before .less .ensures) _ (a .loop .inv .2)),
+          l (c .before .before .less .ok) (c .before .before .before .opens .ensures) (c .before .before .less .ensures) _ (a .loop .inv .2)),
       turn-next (s .args .bytes .now) (s .args .to) (a .loop .i) (toZ w64 (a .loop .t)) (c .before .before .less .result) (c .before .before .before .opens .result)
-      l (c .before .before .less .ok) (c .before .before .before .opens .ensures) (c .before .before .less .ensures) (sym (c .before .zero .ensures) ∙ c .if1 .left) ∙ a .loop .inv .3,
+          l (c .before .before .less .ok) (c .before .before .before .opens .ensures) (c .before .before .less .ensures) (sym (c .before .zero .ensures) ∙ c .if1 .left) ∙ a .loop .inv .3,
     )
 
 returns-2 : tie.Need-returns-2 Inv-loop μ-loop
