@@ -3,7 +3,7 @@ use mathlib.Core.Path.{_≡_, refl, sym, ap, _∙_}
 use mathlib.Core.Bool.{Bool}
 use mathlib.Core.List.{List}
 use mathlib.Core.Option.{none, some}
-use Prim.Native.Nat.{ℕ, zero, suc, _+_, _-_, _*_, _/_, _%_, _^_, _≤_, _<_}
+use Prim.Native.Nat.{ℕ, zero, suc, _+_, _-_, _*_, _/_, _%_, _^_, _≤_, _<_, min}
 use native.Mathlib.Omega.{arith}
 use native.Mathlib.Nat.{two-pow-succ, mul-le-mul-right}
 use lib.Dec.{eqb, leb}
@@ -19,13 +19,16 @@ use Rattle.index.specs.Lent.{entryAt}
 use Rattle.index.proofs.Height.{height-reaches, leaves-few}
 use Rattle.index.proofs.Level.{even-yes, leb-no}
 use Rattle.walk.specs.declared.Walk.{Walk}
+use Rattle.walk.specs.declared.Scan.{Scan}
+use Rattle.walk.specs.declared.Scan.the-variants.{Met, Left}
 use Rattle.walk.specs.declared.Climb.{Climb}
 use Rattle.walk.specs.declared.Climb.the-variants.{Enter, Top}
 use Rattle.walk.specs.Walk.{walk}
-use Rattle.walk.specs.Scan.{first, ahead}
+use Rattle.walk.specs.Scan.{ahead}
 use Rattle.walk.specs.Forward.{climb, descend, leafScan, landed, forward}
 use Rattle.walk.specs.Lent.{Lent}
-use Rattle.forward.specs.Steps.{Footing, Climbed, Hold, Sunk, Ready, whole}
+use Rattle.forward.proofs.Ends.{start-met, start-left, start-still}
+use Rattle.forward.specs.Steps.{scanOf, Footing, Climbed, Hold, Sunk, Ready, whole}
 
 -- two ways to read the entries that agree below b give the same walk
 module _ (e d : ℕ → Summary) (l : ℕ) (same : (k : ℕ) → k < 2 * l → e k ≡ d k) where
@@ -47,7 +50,7 @@ module _ (e d : ℕ → Summary) (l : ℕ) (same : (k : ℕ) → k < 2 * l → e
       (λ r. let o : 2 * k < 2 * l = omega (arith, leb-no l k r) in
       rw (r, same (2 * k) o, descend-same s (2 * k) t (n + 1), descend-same s (2 * k + 1) (t -ℤ d (2 * k) .total) (n + 1)))
 
-module _ (bytes : List ℕ) (idx : List ℤ) (m l : ℕ) (v : Walk) (lent : Lent bytes idx m l) (ready : Ready m l v) where
+module _ (bytes : List ℕ) (idx : List ℤ) (m l : ℕ) (v : Walk) (lent : Lent bytes idx m l) (ready : Ready l v) where
   few : l ≤ 8192
   few = omega (arith, leaves-few m (lent .small), lent .leaves)
 
@@ -101,20 +104,26 @@ take-few n w = omega (arith, length-take n w)
 still-near : (t : ℤ) (x : List Bool) (a b : ℕ) → natAbs t ≤ a → length x ≤ b → natAbs (t -ℤ depthOf x) ≤ a + b
 still-near t x a b h l = omega (zarith, abs-law t, abs-law (t -ℤ depthOf x), parts (t -ℤ depthOf x), -law t (depthOf x), depth-within x)
 
-module _ (bytes : List ℕ) (idx : List ℤ) (m l p : ℕ) (t : ℤ) (lent : Lent bytes idx m l) (b : p < m) (small : natAbs t ≤ 8589934592) where
-  pub begin : (u : ℤ) → u ≡ t -ℤ depthOf (ahead (word bytes m) p) → Ready m l (walk (l + p / 256) u 0)
-  begin u e = record {
-    leaf = omega arith;
-    inside = omega (arith, height-reaches m, lent .leaves);
-    want = rw e (omega (arith, still-near t (ahead (word bytes m) p) 8589934592 256 small (omega (arith, take-few (256 - p % 256) (drop p (word bytes m))))));
-    reads = refl;
-  }
-
-  pub found-near : (q : ℕ) → first p (ahead (word bytes m) p) t ≡ some q → (some q, 0) ≡ forward (height m) (word bytes m) p t
+-- s is what the scan of that block gave
+module _ (bytes : List ℕ) (idx : List ℤ) (m l p : ℕ) (t : ℤ) (lent : Lent bytes idx m l) (b : p < m) (small : natAbs t ≤ 8589934592)
+    (to : ℕ) (i : to ≡ min (256 * (p / 256 + 1)) m) (s : Scan) (r : s ≡ scanOf bytes p (to - p) t) where
+  pub found-near : (q : ℕ) → s ≡ Met q → (some q, 0) ≡ forward (height m) (word bytes m) p t
   unfolding forward
-  found-near q e = rw e
+  found-near q y = rw (start-met bytes m p t b to i s r q y)
 
-  pub found-far : (u : ℤ) → first p (ahead (word bytes m) p) t ≡ none → u ≡ t -ℤ depthOf (ahead (word bytes m) p)
-      → whole bytes m (walk (l + p / 256) u 0) ≡ forward (height m) (word bytes m) p t
-  unfolding forward
-  found-far u e d = rw (e, d, lent .leaves)
+  -- u is the amount that it left
+  module _ (u x : ℤ) (y : s ≡ Left x) (z : u ≡ x) where
+    wanted : u ≡ t -ℤ depthOf (ahead (word bytes m) p)
+    wanted = z ∙ start-still bytes m p t b to i s r x y
+
+    pub begin : Ready l (walk (l + p / 256) u 0)
+    begin = record {
+      leaf = omega arith;
+      inside = omega (arith, height-reaches m, lent .leaves);
+      want = rw wanted (omega (arith, still-near t (ahead (word bytes m) p) 8589934592 256 small (omega (arith, take-few (256 - p % 256) (drop p (word bytes m))))));
+      reads = refl;
+    }
+
+    pub found-far : whole bytes m (walk (l + p / 256) u 0) ≡ forward (height m) (word bytes m) p t
+    unfolding forward
+    found-far = rw (start-left bytes m p t b to i s r x y, wanted, lent .leaves)

@@ -2,7 +2,7 @@
 -- The climb and the way down stay in range by themselves: a total takes off at most 2 ^ 31, and each step at least halves or doubles the
 -- entry.
 use mathlib.Core.Path.{_≡_}
-use mathlib.Core.Bool.{Bool, cond}
+use mathlib.Core.Bool.{cond}
 use mathlib.Core.List.{List}
 use Prim.Native.Nat.{ℕ, suc, _+_, _*_, _/_, _^_, _≤_, _<_}
 use lib.ListN.{length}
@@ -67,7 +67,7 @@ pub record Sunk (idx : List ℤ) (l : ℕ) (v r : Walk) : Type 0 where
   pub low : r .entry ≤ 2 * l
 
 -- where the walk stands after its first block: at a leaf, with nothing read
-pub record Ready (m l : ℕ) (v : Walk) : Type 0 where
+pub record Ready (l : ℕ) (v : Walk) : Type 0 where
   pub leaf : l ≤ v .entry
   pub inside : v .entry < 2 * l
   pub want : natAbs (v .want) ≤ 17179869184

@@ -125,7 +125,7 @@ pub fn leaf(bytes: &[u8], m: usize, l: usize, w: Walk) -> Found
 
 // Past the first block: the climb, the way down, and the scan of the leaf reached. "At entry 1 there is none."
 fn onward(bytes: &[u8], m: usize, index: &[i32], l: usize, start: Walk) -> Found
-    requires { ⌜ Lent (now bytes) (now index) m l × Ready m l start ⌝ }
+    requires { ⌜ Lent (now bytes) (now index) m l × Ready l start ⌝ }
     ensures { λ r. ⌜ said r ≡ whole (now (bytes .entry)) m start ⌝ }
 {
     let found = climb(index, start);

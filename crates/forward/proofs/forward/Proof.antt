@@ -1,13 +1,9 @@
 -- `forward` meets its contract.
 use borrow.Author.Needs.{needs}
-use mathlib.Core.Path.{_≡_, refl, sym, ap, _∙_}
-use Prim.Native.Nat.{_-_}
+use mathlib.Core.Path.{_∙_}
 use mir.Facts.{toZ-ofZ}
-use Rattle.word.specs.Bits.{word}
 use Rattle.word.proofs.Signed.{zarith}
-use Rattle.walk.specs.Scan.{ahead}
 use Rattle.walk.proofs.Machine.{back64}
-use Rattle.forward.proofs.Ends.{met, left, still, ahead-is}
 use Rattle.forward.proofs.Whole.{begin, found-near, found-far}
 use Rattle.forward.proofs.forward.Statement.{statement}
 use Rattle.forward.proofs.forward.Tie as tie
@@ -16,7 +12,12 @@ end-of-requires : tie.Need-end-of-requires
 end-of-requires c κs = search needs
 
 scan-requires : tie.Need-scan-requires
-scan-requires c κs = let s = c .before .before in (omega (zarith, c .end-of .ensures, s .pre .1), omega (zarith, c .end-of .ensures, s .pre .0 .enough), omega (zarith, c .end-of .ensures, s .pre .0 .small), rw (toZ-ofZ (s .fits .want)) (omega (zarith, s .pre .2)))
+scan-requires c κs = let s = c .before .before in (
+  omega (zarith, c .end-of .ensures, s .pre .1),
+  omega (zarith, c .end-of .ensures, s .pre .0 .enough),
+  omega (zarith, c .end-of .ensures, s .pre .0 .small),
+  rw (toZ-ofZ (s .fits .want)) (omega (zarith, s .pre .2)),
+)
 
 enum-known-s : tie.Need-enum-known-s
 enum-known-s c = search needs
@@ -28,17 +29,23 @@ add-t14 : tie.Need-add-t14
 add-t14 c = search needs
 
 onward-requires : tie.Need-onward-requires
-onward-requires c κs = let f = c .before .before .before in let e = f .before in let s = e .before .before in
-    (s .pre .0, begin (s .args .bytes .now) (s .args .index .now) (s .args .m) (s .args .l) (s .args .p) (s .args .want) (s .pre .0) (s .pre .1) (s .pre .2) _ (back64 (c .before .s2 .given .0 .0) (c .known-told2 .given .0 .1) ∙ still (s .args .bytes .now) (s .args .p) (e .end-of .result - s .args .p) (ahead (word (s .args .bytes .now) (s .args .m)) (s .args .p)) (s .args .want) (f .scan .result) (ahead-is (s .args .bytes .now) (s .args .m) (s .args .p) (e .end-of .result) (e .end-of .ensures) (s .pre .1)) (rw (toZ-ofZ (s .fits .want)) at (f .scan .ensures)) _ (c .before .s2 .given .1)))
+onward-requires c κs = let f = c .before .before .before in let e = f .before in let s = e .before .before in let a = s .args in (
+  s .pre .0,
+  begin (a .bytes .now) (a .index .now) (a .m) (a .l) (a .p) (a .want) (s .pre .0) (s .pre .1) (s .pre .2) (e .end-of .result) (e .end-of .ensures) (f .scan .result)
+      (rw (toZ-ofZ (s .fits .want)) at (f .scan .ensures)) _ _ (c .before .s2 .given .1)
+      (back64 (c .before .s2 .given .0 .0) (c .known-told2 .given .0 .1)),
+)
 
 returns : tie.Need-returns
-returns c = let f = c .before .before .before in let e = f .before in let s = e .before .before in
-    found-near (s .args .bytes .now) (s .args .index .now) (s .args .m) (s .args .l) (s .args .p) (s .args .want) (s .pre .0) (s .pre .1) (s .pre .2) _ (met (s .args .bytes .now) (s .args .p) (e .end-of .result - s .args .p) (ahead (word (s .args .bytes .now) (s .args .m)) (s .args .p)) (s .args .want) (f .scan .result) (ahead-is (s .args .bytes .now) (s .args .m) (s .args .p) (e .end-of .result) (e .end-of .ensures) (s .pre .1)) (rw (toZ-ofZ (s .fits .want)) at (f .scan .ensures)) _ (c .before .s .given .1))
+returns c = let f = c .before .before .before in let e = f .before in let s = e .before .before in let a = s .args in
+    found-near (a .bytes .now) (a .index .now) (a .m) (a .l) (a .p) (a .want) (s .pre .0) (s .pre .1) (s .pre .2) (e .end-of .result) (e .end-of .ensures) (f .scan .result)
+    (rw (toZ-ofZ (s .fits .want)) at (f .scan .ensures)) _ (c .before .s .given .1)
 
 returns-2 : tie.Need-returns-2
-returns-2 c = let f = c .before .before .before .before in let e = f .before in let s = e .before .before in
-    c .onward .ensures ∙ found-far (s .args .bytes .now) (s .args .index .now) (s .args .m) (s .args .l) (s .args .p) (s .args .want) (s .pre .0) (s .pre .1) (s .pre .2) _ (left (s .args .bytes .now) (s .args .p) (e .end-of .result - s .args .p) (ahead (word (s .args .bytes .now) (s .args .m)) (s .args .p)) (s .args .want) (f .scan .result) (ahead-is (s .args .bytes .now) (s .args .m) (s .args .p) (e .end-of .result) (e .end-of .ensures) (s .pre .1)) (rw (toZ-ofZ (s .fits .want)) at (f .scan .ensures)) _ (c .before .before .s2 .given .1))
-    (back64 (c .before .before .s2 .given .0 .0) (c .before .known-told2 .given .0 .1) ∙ still (s .args .bytes .now) (s .args .p) (e .end-of .result - s .args .p) (ahead (word (s .args .bytes .now) (s .args .m)) (s .args .p)) (s .args .want) (f .scan .result) (ahead-is (s .args .bytes .now) (s .args .m) (s .args .p) (e .end-of .result) (e .end-of .ensures) (s .pre .1)) (rw (toZ-ofZ (s .fits .want)) at (f .scan .ensures)) _ (c .before .before .s2 .given .1))
+returns-2 c = let f = c .before .before .before .before in let e = f .before in let s = e .before .before in let a = s .args in
+    c .onward .ensures ∙ found-far (a .bytes .now) (a .index .now) (a .m) (a .l) (a .p) (a .want) (s .pre .0) (s .pre .1) (s .pre .2) (e .end-of .result) (e .end-of .ensures) (f .scan .result)
+    (rw (toZ-ofZ (s .fits .want)) at (f .scan .ensures)) _ _ (c .before .before .s2 .given .1)
+    (back64 (c .before .before .s2 .given .0 .0) (c .before .known-told2 .given .0 .1))
 
 pub forward-spec : {M : Type 1} → statement M
 forward-spec =
