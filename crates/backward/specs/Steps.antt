@@ -25,8 +25,8 @@ abbrev pub beforeOf : List ℤ → ℕ → ℕ → Seen
 beforeOf idx k n = cond (even k) (seen emptyOf n) (seen (entryAt idx (k - 1)) (n + 1))
 
 -- one step down, the right child read: into it, or past it into the left one
-abbrev pub down : Walk → Seen → Walk
-down v s = cond (hitBack (s .summary) (v .want)) (walk (2 * v .entry + 1) (v .want) (s .reads)) (walk (2 * v .entry) (v .want +ℤ s .summary .total) (s .reads))
+abbrev pub downOf : Walk → Seen → Walk
+downOf v s = cond (hitBack (s .summary) (v .want)) (walk (2 * v .entry + 1) (v .want) (s .reads)) (walk (2 * v .entry) (v .want +ℤ s .summary .total) (s .reads))
 
 -- the climb from where the walk stands, and the descent, by the numbers lent
 abbrev pub climbOf : List ℤ → ℕ → Walk → Climb
