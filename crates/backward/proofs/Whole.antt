@@ -1,4 +1,5 @@
--- The whole backward walk, over the numbers lent: they are the word's own entries, so the walk is the definition's.
+-- The whole backward walk: past its first block, over the numbers lent, and the first block before it.
+-- The numbers lent are the word's own entries, so the walk by them is the definition's.
 use mathlib.Core.Path.{_≡_, refl, sym, ap, _∙_}
 use mathlib.Core.Bool.{Bool, cond}
 use mathlib.Core.List.{List}

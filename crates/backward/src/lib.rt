@@ -31,7 +31,7 @@ fn earlier(want: i64, bit: bool) -> i64
 }
 
 // The last boundary up to `to`, and after `from`, with the amount wanted from `to`; or the amount wanted from `from`.
-pub fn scan_down(bytes: &[u8], from: usize, to: usize, want: i64) -> Scan
+fn scan_down(bytes: &[u8], from: usize, to: usize, want: i64) -> Scan
     requires { ⌜ (from ≤ to) × (to ≤ 8 * length (now bytes)) × (to ≤ 2097152) × (natAbs want ≤ 1152921504606846976) ⌝ }
     ensures { λ r. ⌜ r ≡ scanDown (now (bytes .entry)) from (to - from) want ⌝ }
 {
