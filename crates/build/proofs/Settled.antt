@@ -12,7 +12,7 @@ use Rattle.word.specs.Bits.{word}
 use Rattle.word.specs.Parse.{forestOf}
 use Rattle.word.specs.Questions.{size}
 use Rattle.word.proofs.Bits.{length-bits}
-use Rattle.word.proofs.ByDepth.{size-length}
+use Rattle.word.proofs.Answers.{size-length}
 use Rattle.word.proofs.Parse.{encode-forestOf}
 use Rattle.judge.specs.declared.Outcome.{Outcome}
 use Rattle.index.specs.Shape.{height, numbersOf, index}
