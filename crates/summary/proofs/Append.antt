@@ -1,13 +1,12 @@
--- The summary of two words, one after the other, is the join of their summaries.
-use mathlib.Core.Path.{_≡_, refl, sym, _∙_, ap, ap₂, subst}
-use mathlib.Core.Logic.{_≢_}
-use mathlib.Core.Bool.{Bool, true, false, not, cond}
+-- The summary of two words, one after the other, is the join of their summaries. Assumes nothing.
+use mathlib.Core.Path.{_≡_, refl, sym, _∙_, ap, ap₂}
+use mathlib.Core.Bool.{Bool, true, false, cond}
 use mathlib.Core.List.{List, [], _∷_, _++_, map, append-assoc, append-nil}
-use Prim.Native.Nat.{ℕ, zero, suc, _+_, _≤_, _<_}
-use lib.IntN.{ℤ, pos, negsuc, _+ℤ_, +ℤ-assoc, +ℤ-idr, +ℤ-idl}
+use Prim.Native.Nat.{_+_, _<_}
+use lib.IntN.{ℤ, pos, _+ℤ_}
 use lib.Signed.{_≤ℤ_, _<ℤ_}
 use Rattle.summary.specs.declared.Summary.{Summary}
-use Rattle.word.specs.Signed.{P, N, minZ, maxZ, eqZ}
+use Rattle.word.specs.Signed.{minZ, maxZ, eqZ}
 use Rattle.word.proofs.Signed.{zarith, +law, min-law, max-law, eqZ-refl, →eqZ, →neqZ, by-test}
 use Rattle.summary.specs.Stretch.{step, depthOf, depths, leastOf, greatestOf, howMany, summaryOf}
 use Rattle.summary.specs.Join.{at, joined, joinOf, emptyOf}

@@ -1,16 +1,14 @@
--- Bounds of a word's summary, and depths within a longer word.
-use mathlib.Core.Path.{_≡_, refl, sym, _∙_, ap}
-use mathlib.Core.Bool.{Bool, true, false, cond}
-use mathlib.Core.List.{List, [], _∷_, _++_, map}
-use Prim.Native.Nat.{ℕ, zero, suc, _+_, _≤_, _<_}
+-- Bounds of a word's summary, and depths within a longer word. Assumes nothing.
+use mathlib.Core.Path.{_≡_, refl, _∙_, ap}
+use mathlib.Core.Bool.{Bool, true, false}
+use mathlib.Core.List.{List, [], _∷_}
+use Prim.Native.Nat.{ℕ, _+_, _≤_, _<_}
 use lib.ListN.{length, take, drop, getD, length-take}
 use native.Mathlib.Numerals.{add-one}
 use lib.Seq.{take-add, take-suc}
-use lib.IntN.{ℤ, pos, negsuc, _+ℤ_, _-ℤ_, natAbs, +ℤ-idr}
-use lib.Signed.{_≤ℤ_, _<ℤ_}
-use Rattle.summary.specs.declared.Summary.{Summary}
-use Rattle.word.specs.Signed.{P, N, minZ, maxZ, eqZ}
-use Rattle.word.proofs.Signed.{zarith, parts, abs-law, +law, -law, min-law, max-law, by-test}
+use lib.IntN.{ℤ, pos, _+ℤ_, natAbs, +ℤ-idr}
+use Rattle.word.specs.Signed.{P, N, eqZ}
+use Rattle.word.proofs.Signed.{zarith, parts, abs-law, +law, min-law, max-law, by-test}
 use Rattle.summary.specs.Stretch.{step, depthOf, depths, leastOf, greatestOf, howMany, summaryOf}
 use Rattle.summary.specs.Join.{joinOf}
 use Rattle.summary.proofs.Append.{one, summary-append}

@@ -1,13 +1,13 @@
--- Joining is associative, on summaries whose counts are not negative, and the empty summary changes nothing.
-use mathlib.Core.Path.{_≡_, refl, sym, _∙_, ap, ap₂, subst}
+-- Joining is associative, on summaries whose counts are not negative, and the empty summary changes nothing. Assumes nothing.
+use mathlib.Core.Path.{_≡_, refl, sym, _∙_, ap}
 use mathlib.Core.Logic.{_≢_}
-use mathlib.Core.Bool.{Bool, true, false, not, cond}
-use Prim.Native.Nat.{ℕ, zero, suc, _+_, _≤_, _<_}
-use lib.IntN.{ℤ, pos, negsuc, _+ℤ_, +ℤ-assoc, +ℤ-idr, +ℤ-idl}
+use mathlib.Core.Bool.{false}
+use Prim.Native.Nat.{_+_}
+use lib.IntN.{ℤ, pos, negsuc, _+ℤ_, +ℤ-assoc, +ℤ-idl}
 use lib.Signed.{_≤ℤ_, _<ℤ_}
 use Rattle.summary.specs.declared.Summary.{Summary}
 use Rattle.word.specs.Signed.{P, N, minZ, maxZ, eqZ}
-use Rattle.word.proofs.Signed.{zarith, +law, min-law, max-law, eqZ-refl, →eqZ, →neqZ, by-test}
+use Rattle.word.proofs.Signed.{zarith, +law, min-law, max-law, →eq, →eqZ, →neqZ, by-test}
 use Rattle.summary.specs.Join.{at, joined, joinOf, emptyOf}
 
 pub at-yes : (a m c : ℤ) → a ≡ m → at a m c ≡ c
@@ -131,9 +131,12 @@ pub join-right : (x y : Summary) → P (x .count) + 0 ≢ 0 + N (x .count) → y
 unfolding joinOf
 join-right x y n e = simp (→neqZ (x .count) (pos 0) n, →eqZ (y .count) (pos 0) (omega zarith))
 
-pub join-both : (x y : Summary) → pos 0 <ℤ (x .count) → pos 0 <ℤ (y .count) → joinOf x y ≡ joined x y
+pub join-joined : (x y : Summary) → eqZ (x .count) (pos 0) ≡ false → eqZ (y .count) (pos 0) ≡ false → joinOf x y ≡ joined x y
 unfolding joinOf
-join-both x y h k = simp (→neqZ (x .count) (pos 0) (omega zarith), →neqZ (y .count) (pos 0) (omega zarith))
+join-joined x y h k = simp (h, k)
+
+pub join-both : (x y : Summary) → pos 0 <ℤ (x .count) → pos 0 <ℤ (y .count) → joinOf x y ≡ joined x y
+join-both x y h k = join-joined x y (→neqZ (x .count) (pos 0) (omega zarith)) (→neqZ (y .count) (pos 0) (omega zarith))
 
 pub join-assoc : (x y z : Summary) → pos 0 ≤ℤ (x .count) → pos 0 ≤ℤ (y .count) → pos 0 ≤ℤ (z .count)
     → joinOf (joinOf x y) z ≡ joinOf x (joinOf y z)
@@ -156,29 +159,28 @@ join-assoc x y z hx hy hz = by-test (eqZ (x .count) (pos 0))
     )
     (joined-assoc x y z))))
 
--- the empty summary: on the left of any, on the right of any but one with count 0 that is not empty itself
+-- "the empty summary changes nothing on either side": on the left of any quadruple; on the right of any whose count is not 0, and of the
+-- empty one itself
 pub join-empty-left : (y : Summary) → joinOf emptyOf y ≡ y
 unfolding emptyOf
 join-empty-left y = join-left _ y refl
 
-pub join-empty-right : (x : Summary) → P (x .count) + 0 ≢ 0 + N (x .count) → joinOf x emptyOf ≡ x
+pub join-empty-right : (x : Summary) → (x .count ≡ pos 0 → ⊥) → joinOf x emptyOf ≡ x
 unfolding emptyOf
-join-empty-right x n = join-right x _ n refl
+join-empty-right x n = join-right x _ (λ e. n (→eq (x .count) (pos 0) e)) refl
 
--- where the count is negative the law fails
-lost : Summary
-lost = record { total = pos 0; least = pos 0; greatest = pos 0; count = negsuc 0 }
+-- ---- quadruples that are no summaries, for which the two laws fail
 
-found : Summary
-found = record { total = pos 0; least = pos 0; greatest = pos 0; count = pos 1 }
+-- counts 1, -1 and 1: the first two cancel, and then stand for nothing
+pub not-associative :
+    let x : Summary = record { total = pos 0; least = pos 0; greatest = pos 0; count = pos 1 } in
+    let y : Summary = record { total = pos 0; least = pos 0; greatest = pos 0; count = negsuc 0 } in
+    let z : Summary = record { total = pos 0; least = pos 5; greatest = pos 5; count = pos 1 } in
+    joinOf (joinOf x y) z ≡ joinOf x (joinOf y z) → ⊥
+unfolding joinOf joined at eqZ minZ maxZ
+not-associative e = let z : pos 5 ≡ pos 0 = ap (λ (s : Summary). s .least) e in omega zarith
 
-higher : Summary
-higher = record { total = pos 0; least = pos 5; greatest = pos 5; count = pos 1 }
-
-not-assoc : joinOf (joinOf found lost) higher ≡ joinOf found (joinOf lost higher) → ⊥
-unfolding joinOf joined lost found higher at eqZ minZ maxZ
-not-assoc e = let z : pos 5 ≡ pos 0 = ap (λ (s : Summary). s .least) e in omega zarith
-
-right-fails : joinOf (record { total = pos 1; least = pos 0; greatest = pos 0; count = pos 0 }) emptyOf ≡ emptyOf
+-- count 0, but not empty: the empty summary on its right stands in its place
+pub lost-before-empty : joinOf (record { total = pos 1; least = pos 1; greatest = pos 1; count = pos 0 }) emptyOf ≡ emptyOf
 unfolding joinOf emptyOf eqZ
-right-fails = refl
+lost-before-empty = refl

@@ -1,16 +1,15 @@
--- What `Summary::join` computes, as the machine has it: each number is read back from its bits.
-use mathlib.Core.Path.{_≡_, refl, sym, _∙_, ap}
-use mathlib.Core.Bool.{Bool, true, false, cond}
-use Prim.Native.Nat.{ℕ, zero, suc, _+_, _≤_, _<_}
-use lib.IntN.{ℤ, pos, negsuc, _+ℤ_, natAbs}
+-- What `both` computes, as the machine has it: each number is read back from its bits. Assumes nothing.
+use mathlib.Core.Path.{_≡_, _∙_}
+use Prim.Native.Nat.{_≤_, _<_}
+use lib.IntN.{ℤ, _+ℤ_, natAbs}
 use lib.Signed.{mag}
 use mir.Syntax.{w32}
 use mir.Val.{SFits, toZ, ofZ}
 use mir.Facts.{toZ-ofZ}
 use Rattle.summary.specs.declared.Summary.{Summary}
-use Rattle.word.specs.Signed.{P, N, minZ, maxZ, eqZ}
+use Rattle.word.specs.Signed.{minZ, maxZ, eqZ}
 use Rattle.word.proofs.Signed.{zarith, parts, by-test, abs-law, +law, i32}
-use Rattle.summary.specs.Join.{at, joined, joinOf}
+use Rattle.summary.specs.Join.{at, joined}
 use Rattle.summary.proofs.Join.{same, at-yes, at-no}
 use Rattle.summary.specs.Bound.{Bounded}
 
@@ -22,7 +21,7 @@ rb z = toZ w32 (ofZ w32 z)
 abbrev pub Ok : ℤ → Type 0
 Ok z = mag z < 2147483648
 
-ok-back : (z : ℤ) → Ok z → rb z ≡ z
+pub ok-back : (z : ℤ) → Ok z → rb z ≡ z
 ok-back z h = toZ-ofZ (record { sfits = h })
 
 pub small : (z : ℤ) → natAbs z ≤ 4194304 → SFits w32 z
@@ -37,20 +36,23 @@ count-small i a m c e h = by-test (eqZ a m)
     (λ t. omega (zarith, e, at-yes a m (rb c) (omega zarith), i32 (small c h), abs-law i, abs-law c, parts i))
     (λ t. omega (zarith, e, at-no a m (rb c) (omega zarith), abs-law i, parts i))
 
-pub made : (x y : Summary) → Bounded 4194304 x → Bounded 4194304 y
-    → eqZ (x .count) (pos 0) ≡ false → eqZ (y .count) (pos 0) ≡ false
-    → (zl zg m i j t g k : ℤ) → Ok zl → Ok zg → Ok m → Ok i → Ok j → Ok t → Ok g → Ok k
-    → zl ≡ rb (x .total) +ℤ rb (y .least)
-    → zg ≡ rb (x .total) +ℤ rb (y .greatest)
-    → m ≡ minZ (rb (x .least)) (rb zl)
-    → i ≡ at (rb (x .least)) (rb m) (rb (x .count))
-    → j ≡ at (rb zl) (rb m) (rb (y .count))
-    → t ≡ rb (x .total) +ℤ rb (y .total)
-    → g ≡ maxZ (rb (x .greatest)) (rb zg)
-    → k ≡ rb i +ℤ rb j
-    → (record { total = rb t; least = rb m; greatest = rb g; count = rb k }) ≡ joinOf x y
-unfolding joinOf joined
-made x y hx hy cx cy zl zg m i j t g k fzl fzg fm fi fj ft fg fk ezl ezg em ei ej et eg ek =
+-- a call's result, read back, is what the call ensures
+pub held : {z v : ℤ} → Ok z → z ≡ v → rb z ≡ v
+held {z} h e = ok-back z h ∙ e
+
+-- the four numbers that `both` puts together
+pub made : (x y : Summary) → Bounded 4194304 x → Bounded 4194304 y → (low high least here there total greatest count : ℤ)
+    → rb low ≡ rb (x .total) +ℤ rb (y .least)
+    → rb high ≡ rb (x .total) +ℤ rb (y .greatest)
+    → rb least ≡ minZ (rb (x .least)) (rb low)
+    → rb here ≡ at (rb (x .least)) (rb least) (rb (x .count))
+    → rb there ≡ at (rb low) (rb least) (rb (y .count))
+    → rb total ≡ rb (x .total) +ℤ rb (y .total)
+    → rb greatest ≡ maxZ (rb (x .greatest)) (rb high)
+    → rb count ≡ rb here +ℤ rb there
+    → (record { total = rb total; least = rb least; greatest = rb greatest; count = rb count }) ≡ joined x y
+unfolding joined
+made x y hx hy low high least here there total greatest count el eh em ei ej et eg ec =
     let xt : rb (x .total) ≡ x .total = toZ-ofZ (small (x .total) (hx .total)) in
     let xl : rb (x .least) ≡ x .least = toZ-ofZ (small (x .least) (hx .least)) in
     let xg : rb (x .greatest) ≡ x .greatest = toZ-ofZ (small (x .greatest) (hx .greatest)) in
@@ -59,8 +61,4 @@ made x y hx hy cx cy zl zg m i j t g k fzl fzg fm fi fj ft fg fk ezl ezg em ei e
     let yl : rb (y .least) ≡ y .least = toZ-ofZ (small (y .least) (hy .least)) in
     let yg : rb (y .greatest) ≡ y .greatest = toZ-ofZ (small (y .greatest) (hy .greatest)) in
     let yc : rb (y .count) ≡ y .count = toZ-ofZ (small (y .count) (hy .count)) in
-    simp (cx, cy) (same
-    (ok-back t ft ∙ et ∙ (cc))
-    (ok-back m fm ∙ em ∙ (cc (ok-back zl fzl)))
-    (ok-back g fg ∙ eg ∙ (cc (ok-back zg fzg)))
-    (ok-back k fk ∙ ek ∙ (cc (ok-back i fi, ok-back j fj, ok-back zl fzl, ok-back m fm))))
+    same (cc) (cc) (cc) (cc)

@@ -1,18 +1,17 @@
--- What a summary says of its word, for walks.
-use mathlib.Core.Path.{_≡_, refl, sym, _∙_, ap, ap₂, subst}
-use mathlib.Core.Logic.{_≢_, _↔_}
-use mathlib.Core.Bool.{Bool, true, false, not, cond}
+-- What a summary says of its stretch, as the walks use it: which depths it reaches, where it ends, how many openings it has. Assumes nothing.
+use mathlib.Core.Path.{_≡_, refl, sym, _∙_, ap}
+use mathlib.Core.Logic.{_↔_}
+use mathlib.Core.Bool.{Bool, true, false, cond}
 use mathlib.Core.List.{List, [], _∷_, _++_, map}
 use Prim.Native.Nat.{ℕ, zero, suc, _+_, _*_, _/_, _≤_, _<_}
 use lib.ListN.{length, take, getD, length-map}
 use lib.IntN.{ℤ, pos, negsuc, _+ℤ_, _-ℤ_, +ℤ-assoc, +ℤ-idr, +ℤ-idl}
-use lib.Signed.{_≤ℤ_, _<ℤ_}
+use lib.Signed.{_≤ℤ_}
 use Rattle.summary.specs.declared.Summary.{Summary}
-use Rattle.word.specs.Signed.{P, N, minZ, maxZ, eqZ}
-use Rattle.word.proofs.Signed.{zarith, parts, +law, -law, min-law, max-law, eqZ-refl, →eqZ, →neqZ, by-test}
+use Rattle.word.specs.Signed.{P, minZ, maxZ, eqZ}
+use Rattle.word.proofs.Signed.{zarith, parts, +law, -law, min-law, max-law, by-test}
 use Rattle.summary.specs.Stretch.{step, depthOf, depths, leastOf, greatestOf, howMany, summaryOf}
-use Rattle.summary.specs.Join.{at, joined, joinOf, emptyOf}
-use Rattle.summary.proofs.Append.{least-all, greatest-all, counted, summary-empty}
+use Rattle.summary.proofs.Append.{least-all, greatest-all, counted}
 
 -- ---- the list `depths w` has the depths after 1, 2, .. bits
 pub depths-length : (w : List Bool) → length (depths w) ≡ length w

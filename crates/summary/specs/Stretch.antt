@@ -1,22 +1,22 @@
--- A word of bits as a walk: an open is one up, a close one down. Its summary, from the running depths.
-use mathlib.Core.Path.{_≡_, refl, sym, _∙_, ap, subst}
-use mathlib.Core.Bool.{Bool, true, false, not, cond}
-use mathlib.Core.List.{List, [], _∷_, _++_, map}
-use Prim.Native.Nat.{ℕ, zero, suc, _+_}
+-- The summary of a stretch of bits: four numbers, from the running depths within it.
+use mathlib.Core.Bool.{Bool, true, false, cond}
+use mathlib.Core.List.{List, [], _∷_, map}
+use Prim.Native.Nat.{ℕ, _+_}
 use lib.IntN.{ℤ, pos, negsuc, _+ℤ_}
 use Rattle.summary.specs.declared.Summary.{Summary}
 use Rattle.word.specs.Signed.{minZ, maxZ, eqZ}
 
+-- an opening goes one up, a closing one down
 abbrev pub step : Bool → ℤ
 step true = pos 1
 step false = negsuc 0
 
--- the depth at a word's end, from depth 0 at its start
+-- "openings less closings", of a stretch from a to b: D(b)-D(a)
 unfoldable pub depthOf : List Bool → ℤ
 depthOf [] = pos 0
 depthOf (b ∷ w) = step b +ℤ depthOf w
 
--- the depths after each bit, from depth 0 at the start: `depthOf` of each non-empty front, the shortest first
+-- "D(p)-D(a) for p from a+1 to b", in order: `depthOf` of each front that is not empty, the shortest first
 unfoldable pub depths : List Bool → List ℤ
 depths [] = []
 depths (b ∷ w) = step b ∷ map (λ (d : ℤ). step b +ℤ d) (depths w)
@@ -35,5 +35,7 @@ unfoldable pub howMany : ℤ → List ℤ → ℕ
 howMany m [] = 0
 howMany m (x ∷ l) = cond (eqZ x m) 1 0 + howMany m l
 
+-- "The summary of a non-empty stretch of bits from a up to but not including b is four numbers: total D(b)-D(a); the least and the greatest
+-- of D(p)-D(a) for p from a+1 to b; and how many such p reach the least. An empty stretch has 0, 0, 0, 0."
 unfoldable pub summaryOf : List Bool → Summary
 summaryOf w = record { total = depthOf w; least = leastOf (depths w); greatest = greatestOf (depths w); count = pos (howMany (leastOf (depths w)) (depths w)) }

@@ -1,14 +1,13 @@
+// The summary of a stretch of bits, four numbers by value, and how two neighbouring stretches join.
 ghost use mathlib.Core.Path.{_≡_};
-ghost use mathlib.Core.Bool.{true};
-ghost use Prim.Native.Nat.{_≤_};
-ghost use lib.IntN.{pos, negsuc, _+ℤ_};
-ghost use lib.Signed.{leZ, ltZ};
+ghost use lib.IntN.{_+ℤ_};
 ghost use mir.Syntax.{w32};
 ghost use mir.Val.{SFits};
-ghost use Rattle.word.specs.Signed.{minZ, maxZ, eqZ};
-ghost use Rattle.summary.specs.Join.{at, joinOf, emptyOf};
+ghost use Rattle.word.specs.Signed.{minZ, maxZ};
+ghost use Rattle.summary.specs.Join.{at, joined, joinOf, emptyOf};
 ghost use Rattle.summary.specs.Bound.{Bounded};
 
+// Depths are counted from the stretch's start, over the boundaries after it.
 pub struct Summary {
     pub total: i32,
     pub least: i32,
@@ -35,25 +34,33 @@ fn larger(a: i32, b: i32) -> i32
     if a <= b { b } else { a }
 }
 
-fn less(a: i32, b: i32) -> bool
-    ensures { λ r. ⌜ r ≡ ltZ a b ⌝ }
+// A side's count, where that side reaches the joined least.
+fn counted(side: i32, least: i32, count: i32) -> i32
+    ensures { λ r. ⌜ r ≡ at side least count ⌝ }
 {
-    a < b
+    if side == least { count } else { 0 }
 }
 
-fn same(a: i32, b: i32) -> bool
-    ensures { λ r. ⌜ r ≡ eqZ a b ⌝ }
+// Two stretches of which neither is empty, x before y.
+fn both(x: Summary, y: Summary) -> Summary
+    requires { ⌜ Bounded 4194304 x × Bounded 4194304 y ⌝ }
+    ensures { λ r. ⌜ r ≡ joined x y ⌝ }
 {
-    a == b
-}
-
-fn counted(a: i32, m: i32, c: i32) -> i32
-    ensures { λ r. ⌜ r ≡ at a m c ⌝ }
-{
-    if a == m { c } else { 0 }
+    let low = sum(x.total, y.least);
+    let high = sum(x.total, y.greatest);
+    let least = smaller(x.least, low);
+    let here = counted(x.least, least, x.count);
+    let there = counted(low, least, y.count);
+    Summary {
+        total: sum(x.total, y.total),
+        least,
+        greatest: larger(x.greatest, high),
+        count: sum(here, there),
+    }
 }
 
 impl Summary {
+    // "An empty stretch has 0, 0, 0, 0."
     pub const EMPTY: Summary = Summary {
         total: 0,
         least: 0,
@@ -61,38 +68,22 @@ impl Summary {
         count: 0,
     };
 
+    // `self` stands before `other`. The bound is twice the longest word's length, and keeps every sum from wrapping.
     pub fn join(self, other: Summary) -> Summary
         requires { ⌜ Bounded 4194304 self × Bounded 4194304 other ⌝ }
         ensures { λ r. ⌜ r ≡ joinOf self other ⌝ }
     {
-        let xt = self.total;
-        let xl = self.least;
-        let xg = self.greatest;
-        let xc = self.count;
-        let yt = other.total;
-        let yl = other.least;
-        let yg = other.greatest;
-        let yc = other.count;
-        if xc == 0 {
+        if self.count == 0 {
             return other;
         }
-        if yc == 0 {
+        if other.count == 0 {
             return self;
         }
-        let zl = sum(xt, yl);
-        let zg = sum(xt, yg);
-        let m = smaller(xl, zl);
-        let i = counted(xl, m, xc);
-        let j = counted(zl, m, yc);
-        Summary {
-            total: sum(xt, yt),
-            least: m,
-            greatest: larger(xg, zg),
-            count: sum(i, j),
-        }
+        both(self, other)
     }
 }
 
+// EMPTY, for a contract to name: a clause cannot say `Summary::EMPTY`.
 pub fn empty() -> Summary
     ensures { λ r. ⌜ r ≡ emptyOf ⌝ }
 {

@@ -118,6 +118,9 @@ module _ (f : Forest) where
   abbrev pub IsNode : ℕ → Type 0
   IsNode a = getD (encode f) a false ≡ true
 
+  pub ancestor-node : (a j p : ℕ) → ancestor f a j ≡ some p → IsNode p
+  ancestor-node a j p e = upward a j p e .2
+
   abbrev Holds : ℕ → ℕ → Type 0
   Holds q a = holds f q a ≡ true
 
@@ -143,6 +146,9 @@ module _ (f : Forest) where
   nearest-deepest a b p e =
       let s = shared-some (chain f a) (chain f b) p e in
       (nth-on (chain f a) (s .j) p (s .first), s .second, λ q m n. ap (λ l. on l q) (upward a (s .j) p (s .first) .0) ∙ s .deepest q m n)
+
+  pub nearest-node : (a b p : ℕ) → nearest f a b ≡ some p → IsNode p
+  nearest-node a b p e = holds-le p a (nearest-deepest a b p e .0) .1
 
   -- and where there is none, no branch holds both
   pub nearest-no-other : (a b : ℕ) → nearest f a b ≡ none → (q : ℕ) → holds f q a ≡ true → holds f q b ≡ true → ⊥
@@ -175,7 +181,7 @@ module _ (f : Forest) where
     where
       go : (o : Option ℕ) → nearest f a b ≡ o → Node? o
       go none e = tt
-      go (some p) e = holds-le p a (nearest-deepest a b p e .0) .1
+      go (some p) e = nearest-node a b p e
 
   same-over : (x y : Option ℕ) → Node? x → Node? y → ((q : ℕ) → Over q x ↔ Over q y) → x ≡ y
   same-over none none h k b = refl

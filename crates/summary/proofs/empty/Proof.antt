@@ -1,3 +1,4 @@
+-- EMPTY is the empty summary. Assumes nothing.
 use Rattle.summary.specs.Join.{emptyOf}
 use mathlib.Core.Path.{refl}
 use Rattle.summary.proofs.empty.Statement.{statement}

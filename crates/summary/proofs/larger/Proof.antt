@@ -1,7 +1,5 @@
-use mathlib.Core.Path.{_≡_, refl, sym, _∙_}
-use mir.Facts.{toZ-ofZ}
-use Rattle.word.proofs.Signed.{zarith, i32, +law, min-law, max-law, eqb-ofZ}
-use Rattle.summary.proofs.Join.{at-yes, at-no}
+-- `larger` is the larger of two. Assumes nothing.
+use Rattle.word.proofs.Signed.{zarith, i32, max-law}
 use Rattle.summary.proofs.larger.Statement.{statement}
 use Rattle.summary.proofs.larger.Tie as tie
 

@@ -1,7 +1,5 @@
-use mathlib.Core.Path.{_≡_, refl, sym, _∙_}
-use mir.Facts.{toZ-ofZ}
-use Rattle.word.proofs.Signed.{zarith, i32, +law, min-law, max-law, eqb-ofZ}
-use Rattle.summary.proofs.Join.{at-yes, at-no}
+-- `smaller` is the smaller of two. Assumes nothing.
+use Rattle.word.proofs.Signed.{zarith, i32, min-law}
 use Rattle.summary.proofs.smaller.Statement.{statement}
 use Rattle.summary.proofs.smaller.Tie as tie
 

@@ -1,0 +1,9 @@
+pub mod Answers
+pub mod Bound
+pub mod Checks
+pub mod Children
+pub mod Demands
+pub mod Least
+pub mod Marked
+pub mod Ranges
+pub mod Sound

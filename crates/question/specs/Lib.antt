@@ -1,0 +1,5 @@
+pub mod Answer
+pub mod Decode
+pub mod Places
+pub mod Reads
+pub mod Reply

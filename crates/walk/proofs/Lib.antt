@@ -1,0 +1,14 @@
+pub mod Amounts
+pub mod Backward
+pub mod Final
+pub mod First
+pub mod Forward
+pub mod Hit
+pub mod Machine
+pub mod Options
+pub mod Places
+pub mod Prefix
+pub mod Range
+pub mod Room
+pub mod Select
+pub mod Signed64

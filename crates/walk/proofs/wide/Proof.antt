@@ -1,0 +1,15 @@
+-- `wide` meets its contract.
+use mathlib.Core.Path.{_∙_}
+use mir.Facts.{toZ-ofZ}
+use Rattle.walk.proofs.Signed64.{widen}
+use Rattle.walk.proofs.wide.Statement.{statement}
+use Rattle.walk.proofs.wide.Tie as tie
+
+cast-result : tie.Need-cast-result
+cast-result c = rw (toZ-ofZ (c .fits .x)) (widen (c .fits .x))
+
+returns : tie.Need-returns
+returns c = toZ-ofZ (cast-result c) ∙ toZ-ofZ (c .fits .x)
+
+pub wide-spec : {M : Type 1} → statement M
+wide-spec = tie.close (tie.spec cast-result returns)
