@@ -17,8 +17,8 @@ use Rattle.walk.specs.Walk.{walk}
 use Rattle.walk.specs.Backward.{hitBack, climbBack}
 use Rattle.walk.proofs.Hit.{empty-missed}
 use Rattle.backward.specs.Steps.{beforeOf, climbOf}
-use Rattle.backward.specs.Room.{Climbed}
-use Rattle.backward.proofs.Room.{Climbing, climbed-top, climbed-enter, climb-on}
+use Rattle.walk.specs.Room.{Climbed}
+use Rattle.walk.proofs.Room.{Climbing, climbed-top, climbed-enter, climb-on}
 
 pub more-near : (t a : ℤ) → mag a < 2147483648 → natAbs (t +ℤ a) ≤ natAbs t + 2147483648
 more-near t a o = omega (zarith, +law t a, abs-law t, abs-law (t +ℤ a), parts (t +ℤ a), mag-law a)

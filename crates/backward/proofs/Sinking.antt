@@ -14,8 +14,8 @@ use Rattle.walk.specs.declared.Seen.{Seen}
 use Rattle.walk.specs.Walk.{walk, seen}
 use Rattle.walk.specs.Backward.{hitBack, descendBack}
 use Rattle.backward.specs.Steps.{downOf, descentOf}
-use Rattle.backward.specs.Room.{Sunk}
-use Rattle.backward.proofs.Room.{Sinking, Down, sunk}
+use Rattle.walk.specs.Room.{Sunk}
+use Rattle.walk.proofs.Room.{Sinking, Down, sunk}
 use Rattle.backward.proofs.Climbing.{more-near}
 
 module _ (idx : List ℤ) (l k : ℕ) (t : ℤ) (n : ℕ) where

@@ -36,8 +36,8 @@ use Rattle.walk.specs.Backward.{climbBack, descendBack, leafBack, landedBack, f
 use Rattle.walk.proofs.Signed64.{wb}
 use Rattle.walk.proofs.Machine.{back64}
 use Rattle.backward.specs.Steps.{scanDown, climbOf, descentOf, beyond}
-use Rattle.backward.specs.Room.{Ready, Near, Climbed, Hold, Sunk}
-use Rattle.backward.proofs.Room.{hold, low-leaf}
+use Rattle.walk.specs.Room.{Ready, Near, Climbed, Hold, Sunk}
+use Rattle.walk.proofs.Room.{hold, low-leaf}
 use Rattle.backward.proofs.Scan.{step-near}
 use Rattle.backward.proofs.Ends.{near-met, near-left}
 

@@ -14,7 +14,7 @@ ghost use Rattle.walk.specs.Walk.{said};
 ghost use Rattle.walk.specs.Lent.{Lent};
 ghost use Rattle.walk.specs.Backward.{hitBack, leafBack, backward};
 ghost use Rattle.backward.specs.Steps.{scanDown, beforeOf, downOf, climbOf, descentOf, beyond};
-ghost use Rattle.backward.specs.Room.{Ready, Footing, Climbed, Hold, Sunk};
+ghost use Rattle.walk.specs.Room.{Ready, Footing, Climbed, Hold, Sunk};
 use summary::Summary;
 use walk::Climb;
 use walk::Found;

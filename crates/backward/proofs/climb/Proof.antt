@@ -3,7 +3,7 @@ use mathlib.Core.Path.{sym, _∙_}
 use Rattle.word.proofs.Signed.{zarith}
 use Rattle.walk.proofs.Machine.{back64}
 use Rattle.backward.specs.Steps.{climbOf}
-use Rattle.backward.proofs.Room.{Climbing, climb-start}
+use Rattle.walk.proofs.Room.{Climbing, climb-start}
 use Rattle.backward.proofs.Climbing.{climbed-root, climbed-hit, climbed-on}
 use Rattle.backward.proofs.climb.Statement.{statement}
 use Rattle.backward.proofs.climb.Tie as tie

@@ -2,7 +2,7 @@
 use Prim.Native.Nat.{_-_}
 use Rattle.word.proofs.Signed.{zarith}
 use Rattle.backward.specs.Steps.{descentOf}
-use Rattle.backward.proofs.Room.{Sinking, sink-start, sink-on}
+use Rattle.walk.proofs.Room.{Sinking, sink-start, sink-on}
 use Rattle.backward.proofs.Sinking.{deeper, sunk-leaf, step-down}
 use Rattle.backward.proofs.descend.Statement.{statement}
 use Rattle.backward.proofs.descend.Tie as tie

@@ -1,7 +1,7 @@
 -- `onward` meets its contract.
 use borrow.Author.Needs.{needs}
 use mathlib.Core.Path.{_∙_}
-use Rattle.backward.proofs.Room.{footing}
+use Rattle.walk.proofs.Room.{footing}
 use Rattle.backward.proofs.Whole.{topped, held, leaf-there, entered}
 use Rattle.backward.proofs.onward.Statement.{statement}
 use Rattle.backward.proofs.onward.Tie as tie
