@@ -34,7 +34,7 @@ module _ (bytes : List ℕ) (m l : ℕ) (w : Walk) where
   pub leaf-past : m ≤ 256 * (w .entry - l) → (none, w .reads) ≡ leafScan l (word bytes m) w
   leaf-past o = rw (block-past bytes m (w .entry - l) o, first-nil)
 
-  module _ (o : 256 * (w .entry - l) < m) (to : ℕ) (e : to ≡ min (256 * (w .entry - l + 1)) m) (s : Scan) (r : s ≡ scanOf bytes (256 * (w .entry - l)) (to - 256 * (w .entry - l)) (w .want)) where
+  module _ (to : ℕ) (e : to ≡ min (256 * (w .entry - l + 1)) m) (s : Scan) (r : s ≡ scanOf bytes (256 * (w .entry - l)) (to - 256 * (w .entry - l)) (w .want)) where
     is : block (word bytes m) (w .entry - l) ≡ bits bytes (256 * (w .entry - l)) (to - 256 * (w .entry - l))
     is = block-is bytes m (w .entry - l) to e
 

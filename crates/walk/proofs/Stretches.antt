@@ -11,8 +11,7 @@ use Rattle.word.specs.Bits.{bits, word}
 use Rattle.word.proofs.Bits.{part-bits}
 use Rattle.index.specs.Shape.{block}
 use Rattle.walk.specs.declared.Scan.the-variants.{Met, Left}
-use Rattle.walk.specs.Scan.{ahead, behind, scanned}
-use Rattle.walk.specs.Range.{upTo}
+use Rattle.walk.specs.Scan.{ahead, behind, upTo, scanned}
 
 module _ (bytes : List ℕ) (m : ℕ) where
   pub part-is : (i n k : ℕ) → min n (m - i) ≡ k → take n (drop i (word bytes m)) ≡ bits bytes i k

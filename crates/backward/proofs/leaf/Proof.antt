@@ -1,6 +1,7 @@
 -- `leaf` meets its contract.
 use borrow.Author.Needs.{needs}
-use Rattle.backward.proofs.Ends.{past-word, leaf-met, leaf-left}
+use Rattle.walk.proofs.Machine.{back64}
+use Rattle.backward.proofs.Ends.{leaf-past, leaf-met, leaf-left}
 use Rattle.backward.proofs.leaf.Statement.{statement}
 use Rattle.backward.proofs.leaf.Tie as tie
 
@@ -11,7 +12,7 @@ mul-from : tie.Need-mul-from
 mul-from c = search needs
 
 returns : tie.Need-returns
-returns c = let s = c .before .before .args in past-word (s .bytes .now) (s .m) (s .l) (s .w) (c .if1 .taken)
+returns c = let a = c .before .before .args in leaf-past (a .bytes .now) (a .m) (a .l) (a .w) (c .if1 .taken)
 
 end-of-requires : tie.Need-end-of-requires
 end-of-requires c κs = search needs
@@ -26,14 +27,14 @@ enum-told : tie.Need-enum-told
 enum-told c = search needs
 
 returns-2 : tie.Need-returns-2
-returns-2 c = let f = c .before .before .before in let e = f .before .before in let s = e .before .before .before .args in
-    leaf-met (s .bytes .now) (s .m) (s .l) (s .w) (e .end-of .result) (f .scan-down .result) (e .before .if1 .left) (e .end-of .ensures) (f .before .struct-told .given .1 .0 .1)
-    (f .scan-down .ensures) _ (c .before .s .given .1)
+returns-2 c = let f = c .before .before .before in let e = f .before .before in let a = e .before .before .before .args in
+    leaf-met (a .bytes .now) (a .m) (a .l) (a .w) (e .end-of .result) (e .end-of .ensures) (f .scan-down .result)
+    (rw (back64 (a .w .want) (f .before .struct-told .given .1 .0 .1)) at (f .scan-down .ensures)) _ (c .before .s .given .1)
 
 returns-3 : tie.Need-returns-3
-returns-3 c = let f = c .before .before in let e = f .before .before in let s = e .before .before .before .args in
-    leaf-left (s .bytes .now) (s .m) (s .l) (s .w) (e .end-of .result) (f .scan-down .result) (e .before .if1 .left) (e .end-of .ensures) (f .before .struct-told .given .1 .0 .1)
-    (f .scan-down .ensures) _ (c .enum-told .given .1)
+returns-3 c = let f = c .before .before in let e = f .before .before in let a = e .before .before .before .args in
+    leaf-left (a .bytes .now) (a .m) (a .l) (a .w) (e .end-of .result) (e .end-of .ensures) (f .scan-down .result)
+    (rw (back64 (a .w .want) (f .before .struct-told .given .1 .0 .1)) at (f .scan-down .ensures)) _ (c .enum-told .given .1)
 
 pub leaf-spec : {M : Type 1} → statement M
 leaf-spec =

@@ -1,11 +1,14 @@
 -- `scan_down` meets its contract: what is left of the scan gives what the whole gives.
-use mathlib.Core.Path.{_≡_, refl, sym, _∙_}
-use Prim.Native.Nat.{suc, _+_, _-_, _≤_, _<_}
+use mathlib.Core.Path.{_≡_, refl, sym, ap, _∙_}
+use Prim.Native.Nat.{_+_, _-_, _≤_}
 use mir.Syntax.{w64}
 use mir.Val.{toZ}
 use mir.Facts.{toZ-ofZ}
-use lib.IntN.{natAbs}
+use lib.IntN.{_+ℤ_, natAbs}
+use Rattle.word.specs.Bits.{bit}
 use Rattle.word.proofs.Signed.{zarith}
+use Rattle.summary.specs.Stretch.{step}
+use Rattle.walk.proofs.Machine.{by-step}
 use Rattle.backward.specs.Steps.{scanDown}
 use Rattle.backward.proofs.Scan.{scan-end, turn-met, turn-next, turn-near}
 use Rattle.backward.proofs.scan_down.Statement.{statement}
@@ -33,8 +36,11 @@ sub-opens c = omega zarith
 opens-requires : tie.Need-opens-requires Inv-loop μ-loop
 opens-requires c κs = omega zarith
 
-earlier-requires : tie.Need-earlier-requires Inv-loop μ-loop
-earlier-requires c κs = omega zarith
+step-requires : tie.Need-step-requires Inv-loop μ-loop
+step-requires c κs = tt
+
+plus-requires : tie.Need-plus-requires Inv-loop μ-loop
+plus-requires c κs = omega zarith
 
 sub-i : tie.Need-sub-i Inv-loop μ-loop
 sub-i c = omega zarith
@@ -43,15 +49,12 @@ loop-less : tie.Need-loop-less Inv-loop μ-loop
 loop-less c = omega zarith
 
 loop-again : tie.Need-loop-again Inv-loop μ-loop
-loop-again c = let a = c .before .before .before .before .before in let s = a .before .before in
-    let l : s .args .from < a .loop .i = omega zarith in
-    let m : suc (1152921504606846976 + (s .args .to - a .loop .i)) ≡ 1152921504606846976 + (s .args .to - (a .loop .i - 1)) = omega zarith in (
+loop-again c = let e = c .before in let o = e .before in let a = o .before .before .before .before in let s = a .before .before in
+    let u = by-step _+ℤ_ (c .plus .result) (toZ w64 (a .loop .t)) (e .step .result) (bit (s .args .bytes .now) (a .loop .i - 1)) (c .plus .ok) (e .step .ok) (c .plus .ensures) (e .step .ensures ∙ ap step (o .opens .ensures)) in (
       omega zarith,
       omega zarith,
-      rw (← m) (turn-near (s .args .bytes .now) (s .args .from) (a .loop .i) (toZ w64 (a .loop .t)) (c .earlier .result) (c .before .opens .result)
-          l (c .earlier .ok) (c .before .opens .ensures) (c .earlier .ensures) _ (a .loop .inv .2)),
-      turn-next (s .args .bytes .now) (s .args .from) (a .loop .i) (toZ w64 (a .loop .t)) (c .earlier .result) (c .before .opens .result)
-          l (c .earlier .ok) (c .before .opens .ensures) (c .earlier .ensures) (sym (c .before .before .before .zero .ensures) ∙ c .before .before .if1 .left) ∙ a .loop .inv .3,
+      turn-near (s .args .bytes .now) (s .args .from) (a .loop .i) (toZ w64 (a .loop .t)) (omega zarith) _ u _ _ (a .loop .inv .2) (omega zarith),
+      turn-next (s .args .bytes .now) (s .args .from) (a .loop .i) (toZ w64 (a .loop .t)) (omega zarith) _ u (sym (o .before .before .zero .ensures) ∙ o .before .if1 .left) ∙ a .loop .inv .3,
     )
 
 returns-2 : tie.Need-returns-2 Inv-loop μ-loop
@@ -69,7 +72,8 @@ scan-down-spec =
     returns
     sub-opens
     opens-requires
-    earlier-requires
+    step-requires
+    plus-requires
     sub-i
     loop-less
     loop-again

@@ -28,12 +28,12 @@ enum-told c = search needs
 
 returns-2 : tie.Need-returns-2
 returns-2 c = let f = c .before .before .before in let e = f .before .before in let a = e .before .before .before .args in
-    leaf-met (a .bytes .now) (a .m) (a .l) (a .w) (e .before .if1 .left) (e .end-of .result) (e .end-of .ensures) (f .scan .result)
+    leaf-met (a .bytes .now) (a .m) (a .l) (a .w) (e .end-of .result) (e .end-of .ensures) (f .scan .result)
     (rw (back64 (a .w .want) (f .before .struct-told .given .1 .0 .1)) at (f .scan .ensures)) _ (c .before .s .given .1)
 
 returns-3 : tie.Need-returns-3
 returns-3 c = let f = c .before .before in let e = f .before .before in let a = e .before .before .before .args in
-    leaf-left (a .bytes .now) (a .m) (a .l) (a .w) (e .before .if1 .left) (e .end-of .result) (e .end-of .ensures) (f .scan .result)
+    leaf-left (a .bytes .now) (a .m) (a .l) (a .w) (e .end-of .result) (e .end-of .ensures) (f .scan .result)
     (rw (back64 (a .w .want) (f .before .struct-told .given .1 .0 .1)) at (f .scan .ensures)) _ (c .enum-told .given .1)
 
 pub leaf-spec : {M : Type 1} → statement M
