@@ -1,12 +1,13 @@
 -- `depth_of` meets its contract.
-use mathlib.Core.Path.{_≡_}
-use Prim.Native.Nat.{_+_, _-_, _≤_, suc}
+use mathlib.Core.Path.{_≡_, ap, _∙_}
+use Prim.Native.Nat.{_+_, _-_, _≤_}
 use mir.Syntax.{w64}
 use mir.Val.{toZ}
-use lib.IntN.{natAbs}
-use Rattle.word.specs.Bits.{bits}
+use lib.IntN.{_+ℤ_, natAbs}
+use Rattle.word.specs.Bits.{bit, bits}
 use Rattle.word.proofs.Signed.{zarith}
-use Rattle.summary.specs.Stretch.{depthOf}
+use Rattle.summary.specs.Stretch.{step, depthOf}
+use Rattle.walk.proofs.Machine.{by-step}
 use Rattle.prefix.proofs.Scan.{Whole, whole-start, whole-end, turn-next, turn-near}
 use Rattle.prefix.proofs.depth_of.Statement.{statement}
 use Rattle.prefix.proofs.depth_of.Tie as tie
@@ -23,8 +24,11 @@ loop-holds c = (omega zarith, omega zarith, omega zarith, whole-start _)
 opens-requires : tie.Need-opens-requires Inv-loop μ-loop
 opens-requires c κs = omega zarith
 
-past-requires : tie.Need-past-requires Inv-loop μ-loop
-past-requires c κs = omega zarith
+step-requires : tie.Need-step-requires Inv-loop μ-loop
+step-requires c κs = tt
+
+plus-requires : tie.Need-plus-requires Inv-loop μ-loop
+plus-requires c κs = omega zarith
 
 add-i : tie.Need-add-i Inv-loop μ-loop
 add-i c = omega zarith
@@ -33,15 +37,12 @@ loop-less : tie.Need-loop-less Inv-loop μ-loop
 loop-less c = omega zarith
 
 loop-again : tie.Need-loop-again Inv-loop μ-loop
-loop-again c = let a = c .before .before .before in let s = a .before .before in
-    let l : a .loop .i + 1 ≤ s .args .to = omega zarith in
-    let m : suc (a .loop .i - s .args .from) ≡ a .loop .i + 1 - s .args .from = omega zarith in (
+loop-again c = let e = c .before in let o = e .before in let a = o .before .before in let s = a .before .before in
+    let u = by-step _+ℤ_ (c .plus .result) (toZ w64 (a .loop .depth)) (e .step .result) (bit (s .args .bytes .now) (a .loop .i)) (c .plus .ok) (e .step .ok) (c .plus .ensures) (e .step .ensures ∙ ap step (o .opens .ensures)) in (
       omega zarith,
       omega zarith,
-      rw (← m) (turn-near (s .args .bytes .now) (s .args .to) (a .loop .i) (toZ w64 (a .loop .depth)) (c .past .result) (c .past .result) (c .before .opens .result)
-          (omega zarith) (c .past .ok) (c .before .opens .ensures) (c .past .ensures) _ (a .loop .inv .2)),
-      turn-next (s .args .bytes .now) (s .args .to) (a .loop .i) (toZ w64 (a .loop .depth)) (c .past .result) _ (c .before .opens .result)
-          (omega zarith) (c .past .ok) (c .before .opens .ensures) (c .past .ensures) (a .loop .inv .3),
+      turn-near (s .args .bytes .now) (s .args .to) (a .loop .i) (toZ w64 (a .loop .depth)) _ (omega zarith) u _ _ (a .loop .inv .2) (omega zarith),
+      turn-next (s .args .bytes .now) (s .args .to) (a .loop .i) (toZ w64 (a .loop .depth)) _ (omega zarith) u _ (a .loop .inv .3),
     )
 
 returns : tie.Need-returns Inv-loop μ-loop
@@ -55,7 +56,8 @@ depth-of-spec =
     μ-loop
     loop-holds
     opens-requires
-    past-requires
+    step-requires
+    plus-requires
     add-i
     loop-less
     loop-again
