@@ -30,7 +30,7 @@ use Rattle.prefix.specs.declared.Rise.{Rise}
 use Rattle.prefix.specs.Rise.{rise, raised, Stands, Risen}
 
 -- what the climb gives from where it stands, in s steps
-abbrev pub upFrom : (ℕ → Summary) → ℕ → Rise → ℤ × ℕ
+abbrev upFrom : (ℕ → Summary) → ℕ → Rise → ℤ × ℕ
 upFrom e s v = prefixUp e s (v .entry) (v .depth) (v .reads)
 
 module _ (e : ℕ → Summary) (v : Rise) where

@@ -13,7 +13,7 @@ use Rattle.index.specs.Shape.{height, entry}
 use Rattle.index.specs.Lent.{entryAt}
 use Rattle.walk.specs.declared.Walk.{Walk}
 use Rattle.walk.specs.declared.Climb.{Climb}
-use Rattle.walk.specs.declared.Climb.the-variants.{Enter, Top}
+use Rattle.walk.specs.declared.Climb.the-variants.{Enter}
 use Rattle.walk.specs.Walk.{Reach}
 use Rattle.walk.specs.Lent.{Lent}
 use Rattle.walk.specs.Room.{Ready, Near, Climbed, Hold, Sunk}

@@ -90,7 +90,7 @@ pub fn before(index: &[i32], k: usize, reads: u32) -> Seen
     }
 }
 
-fn wide(x: i32) -> i64
+pub fn wide(x: i32) -> i64
     ensures { λ r. ⌜ r ≡ x ⌝ }
 {
     x as i64

@@ -1,6 +1,6 @@
 -- `depth_of` meets its contract.
-use mathlib.Core.Path.{_≡_, ap, _∙_}
-use Prim.Native.Nat.{_+_, _-_, _≤_}
+use mathlib.Core.Path.{ap, _∙_}
+use Prim.Native.Nat.{_-_, _≤_}
 use mir.Syntax.{w64}
 use mir.Val.{toZ}
 use lib.IntN.{_+ℤ_, natAbs}
