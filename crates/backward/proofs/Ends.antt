@@ -4,20 +4,18 @@ use mathlib.Core.Path.{_≡_, refl, sym, ap, _∙_}
 use mathlib.Core.Bool.{Bool}
 use mathlib.Core.List.{List}
 use mathlib.Core.Option.{Option, none, some}
-use Prim.Native.Nat.{ℕ, suc, _+_, _-_, _*_, _/_, _≤_, _<_, min}
+use Prim.Native.Nat.{ℕ, suc, _+_, _-_, _*_, _/_, _<_, min}
 use native.Mathlib.Omega.{arith}
 use lib.IntN.{ℤ, _+ℤ_}
 use Rattle.word.specs.Bits.{bit, bits, word}
 use Rattle.summary.specs.Stretch.{step, depthOf}
-use Rattle.index.specs.Shape.{block}
 use Rattle.walk.specs.declared.Scan.{Scan}
 use Rattle.walk.specs.declared.Scan.the-variants.{Met, Left}
 use Rattle.walk.specs.declared.Walk.{Walk}
-use Rattle.walk.specs.Scan.{final, behind, scanned}
+use Rattle.walk.specs.Scan.{final, behind, scanned, reached}
 use Rattle.walk.specs.Backward.{leafBack, fromStart}
 use Rattle.backward.specs.Steps.{scanDown}
-use Rattle.walk.proofs.Final.{final-nil}
-use Rattle.walk.proofs.Stretches.{block-is, block-past, behind-is, up-to-is, scanned-met, scanned-left}
+use Rattle.walk.proofs.Stretches.{block-is, behind-is, up-to-is, scanned-met, scanned-left, reached-is}
 use Rattle.backward.proofs.Scan.{one-more}
 
 -- a stretch x of the word that is n bits from bit i, and u wanted from its start
@@ -32,20 +30,10 @@ module _ (bytes : List ℕ) (i n : ℕ) (x : List Bool) (t u : ℤ) (s : Scan) (
   left : (v : ℤ) → s ≡ Left v → (final i x u ≡ none) × (v ≡ u)
   left v y = scanned-left (final i x u) u v (sym scan-is ∙ y)
 
--- ---- the leaf reached: block b, from its end boundary down
-module _ (bytes : List ℕ) (m l : ℕ) (w : Walk) where
-  pub leaf-past : m ≤ 256 * (w .entry - l) → (none, w .reads) ≡ leafBack l (word bytes m) w
-  leaf-past h = rw (block-past bytes m (w .entry - l) h, final-nil)
-
-  module _ (to : ℕ) (e : to ≡ min (256 * (w .entry - l + 1)) m) (s : Scan) (r : s ≡ scanDown bytes (256 * (w .entry - l)) (to - 256 * (w .entry - l)) (w .want)) where
-    is : block (word bytes m) (w .entry - l) ≡ bits bytes (256 * (w .entry - l)) (to - 256 * (w .entry - l))
-    is = block-is bytes m (w .entry - l) to e
-
-    pub leaf-met : (q : ℕ) → s ≡ Met q → (some q, w .reads) ≡ leafBack l (word bytes m) w
-    leaf-met q y = ap (λ (o : Option ℕ). (o, w .reads)) (sym (met bytes _ _ _ (w .want) _ s is refl r q y))
-
-    pub leaf-left : (v : ℤ) → s ≡ Left v → (none, w .reads) ≡ leafBack l (word bytes m) w
-    leaf-left v y = ap (λ (o : Option ℕ). (o, w .reads)) (sym (left bytes _ _ _ (w .want) _ s is refl r v y .0))
+-- ---- the leaf where the walk stands
+pub leaf-is : (bytes : List ℕ) (m l : ℕ) (w : Walk) (to : ℕ) (s : Scan) → to ≡ min (256 * (w .entry - l + 1)) m → s ≡ scanDown bytes (256 * (w .entry - l)) (to - 256 * (w .entry - l)) (w .want)
+    → (reached s, w .reads) ≡ leafBack l (word bytes m) w
+leaf-is bytes m l w to s e r = ap (λ (x : Option ℕ). (x, w .reads)) (ap reached (scan-is bytes _ _ _ (w .want) _ s (block-is bytes m (w .entry - l) to e) refl r) ∙ reached-is _ _)
 
 -- ---- the first block: the bits before bit p, where t is wanted from boundary p + 1 and `u` from boundary p
 module _ (bytes : List ℕ) (m p : ℕ) (t u : ℤ) (s : Scan) (h : p < m) (d : u ≡ t +ℤ step (bit bytes p)) (r : s ≡ scanDown bytes (256 * (p / 256)) (p - 256 * (p / 256)) u) where

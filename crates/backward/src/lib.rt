@@ -24,7 +24,7 @@ use walk::Walk;
 
 // The last boundary up to `to`, and after `from`, with the amount wanted from `to`; or the amount wanted from `from`.
 fn scan_down(bytes: &[u8], from: usize, to: usize, want: i64) -> Scan
-    requires { ⌜ (from ≤ to) × (to ≤ 8 * length (now bytes)) × (to ≤ 2097152) × (natAbs want ≤ 1152921504606846976) ⌝ }
+    requires { ⌜ (to ≤ 8 * length (now bytes)) × (to ≤ 2097152) × (natAbs want ≤ 1152921504606846976) ⌝ }
     ensures { λ r. ⌜ r ≡ scanDown (now (bytes .entry)) from (to - from) want ⌝ }
 {
     let mut t = want;
@@ -103,17 +103,9 @@ fn leaf(bytes: &[u8], m: usize, l: usize, w: Walk) -> Found
 {
     let k = w.entry;
     let b = k - l;
-    let from = 256 * b;
-    let n = w.reads;
-    if m <= from {
-        return Found::Nothing(n);
-    }
     let to = walk::end_of(m, b);
-    let s = scan_down(bytes, from, to, w.want);
-    match s {
-        Scan::Met(q) => Found::At(q, n),
-        Scan::Left(_) => Found::Nothing(n),
-    }
+    let s = scan_down(bytes, 256 * b, to, w.want);
+    walk::met(s, w.reads)
 }
 
 // "At entry 1 the answer is boundary 0 if t is 0, else none."

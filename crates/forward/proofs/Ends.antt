@@ -3,18 +3,16 @@ use mathlib.Core.Path.{_≡_, sym, ap, _∙_}
 use mathlib.Core.Bool.{Bool}
 use mathlib.Core.List.{List}
 use mathlib.Core.Option.{Option, none, some}
-use Prim.Native.Nat.{ℕ, _+_, _-_, _*_, _/_, _≤_, _<_, min}
+use Prim.Native.Nat.{ℕ, _+_, _-_, _*_, _/_, _<_, min}
 use lib.IntN.{ℤ, _-ℤ_}
 use Rattle.word.specs.Bits.{bits, word}
 use Rattle.summary.specs.Stretch.{depthOf}
-use Rattle.index.specs.Shape.{block}
 use Rattle.walk.specs.declared.Walk.{Walk}
 use Rattle.walk.specs.declared.Scan.{Scan}
 use Rattle.walk.specs.declared.Scan.the-variants.{Met, Left}
-use Rattle.walk.specs.Scan.{first, ahead, scanned}
+use Rattle.walk.specs.Scan.{first, ahead, scanned, reached}
 use Rattle.walk.specs.Forward.{leafScan}
-use Rattle.walk.proofs.First.{first-nil}
-use Rattle.walk.proofs.Stretches.{block-is, block-past, ahead-is, scanned-met, scanned-left}
+use Rattle.walk.proofs.Stretches.{block-is, ahead-is, scanned-met, scanned-left, reached-is}
 use Rattle.forward.specs.Steps.{scanOf}
 
 -- a stretch x of the word that is n bits from bit i
@@ -30,19 +28,9 @@ module _ (bytes : List ℕ) (i n : ℕ) (x : List Bool) (t : ℤ) (s : Scan) (e 
   left u y = scanned-left (first i x t) (t -ℤ depthOf x) u (sym scan-is ∙ y)
 
 -- ---- the leaf where the walk stands
-module _ (bytes : List ℕ) (m l : ℕ) (w : Walk) where
-  pub leaf-past : m ≤ 256 * (w .entry - l) → (none, w .reads) ≡ leafScan l (word bytes m) w
-  leaf-past o = rw (block-past bytes m (w .entry - l) o, first-nil)
-
-  module _ (to : ℕ) (e : to ≡ min (256 * (w .entry - l + 1)) m) (s : Scan) (r : s ≡ scanOf bytes (256 * (w .entry - l)) (to - 256 * (w .entry - l)) (w .want)) where
-    is : block (word bytes m) (w .entry - l) ≡ bits bytes (256 * (w .entry - l)) (to - 256 * (w .entry - l))
-    is = block-is bytes m (w .entry - l) to e
-
-    pub leaf-met : (q : ℕ) → s ≡ Met q → (some q, w .reads) ≡ leafScan l (word bytes m) w
-    leaf-met q y = ap (λ (x : Option ℕ). (x, w .reads)) (sym (met bytes _ _ _ (w .want) s is r q y))
-
-    pub leaf-left : (u : ℤ) → s ≡ Left u → (none, w .reads) ≡ leafScan l (word bytes m) w
-    leaf-left u y = ap (λ (x : Option ℕ). (x, w .reads)) (sym (left bytes _ _ _ (w .want) s is r u y .0))
+pub leaf-is : (bytes : List ℕ) (m l : ℕ) (w : Walk) (to : ℕ) (s : Scan) → to ≡ min (256 * (w .entry - l + 1)) m → s ≡ scanOf bytes (256 * (w .entry - l)) (to - 256 * (w .entry - l)) (w .want)
+    → (reached s, w .reads) ≡ leafScan l (word bytes m) w
+leaf-is bytes m l w to s e r = ap (λ (x : Option ℕ). (x, w .reads)) (ap reached (scan-is bytes _ _ _ (w .want) s (block-is bytes m (w .entry - l) to e) r) ∙ reached-is _ _)
 
 -- ---- the block where the walk starts
 module _ (bytes : List ℕ) (m p : ℕ) (t : ℤ) (o : p < m) (to : ℕ) (e : to ≡ min (256 * (p / 256 + 1)) m) (s : Scan) (r : s ≡ scanOf bytes p (to - p) t) where

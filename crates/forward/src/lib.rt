@@ -20,7 +20,7 @@ use walk::Walk;
 
 // The first boundary after `from`, up to `to`, whose depth from `from` is what is wanted.
 fn scan(bytes: &[u8], from: usize, to: usize, want: i64) -> Scan
-    requires { ⌜ (from ≤ to) × (to ≤ 8 * length (now bytes)) × (to ≤ 4194304) × (natAbs want ≤ 1152921504606846976) ⌝ }
+    requires { ⌜ (to ≤ 8 * length (now bytes)) × (to ≤ 4194304) × (natAbs want ≤ 1152921504606846976) ⌝ }
     ensures { λ r. ⌜ r ≡ scanOf (now (bytes .entry)) from (to - from) want ⌝ }
 {
     let mut t = want;
@@ -90,17 +90,9 @@ fn leaf(bytes: &[u8], m: usize, l: usize, w: Walk) -> Found
 {
     let k = w.entry;
     let b = k - l;
-    let from = 256 * b;
-    let n = w.reads;
-    if m <= from {
-        return Found::Nothing(n);
-    }
     let to = walk::end_of(m, b);
-    let s = scan(bytes, from, to, w.want);
-    match s {
-        Scan::Met(q) => Found::At(q, n),
-        Scan::Left(_) => Found::Nothing(n),
-    }
+    let s = scan(bytes, 256 * b, to, w.want);
+    walk::met(s, w.reads)
 }
 
 // Past the first block: the climb, the way down, and the scan of the leaf reached. "At entry 1 there is none."

@@ -54,3 +54,7 @@ either none r = r
 abbrev pub scanned : Option ℕ → ℤ → Scan
 scanned (some q) t = Met q
 scanned none t = Left t
+
+abbrev pub reached : Scan → Option ℕ
+reached (Met q) = some q
+reached (Left t) = none

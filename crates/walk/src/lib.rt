@@ -10,7 +10,8 @@ ghost use Rattle.word.specs.Signed.{eqZ};
 ghost use Rattle.summary.specs.Stretch.{step};
 ghost use Rattle.summary.specs.Join.{emptyOf};
 ghost use Rattle.index.specs.Lent.{entryAt};
-ghost use Rattle.walk.specs.Walk.{walk, seen, hit};
+ghost use Rattle.walk.specs.Walk.{said, walk, seen, hit};
+ghost use Rattle.walk.specs.Scan.{reached};
 ghost use Rattle.walk.specs.Beside.{afterOf, beforeOf};
 use summary::Summary;
 
@@ -185,6 +186,16 @@ impl Walk {
             want: plus(self.want, s.total),
             reads: seen.reads,
         }
+    }
+}
+
+// What a scan met, if anything, and the reads.
+pub fn met(s: Scan, reads: u32) -> Found
+    ensures { λ r. ⌜ said r ≡ (reached s, reads) ⌝ }
+{
+    match s {
+        Scan::Met(q) => Found::At(q, reads),
+        Scan::Left(_) => Found::Nothing(reads),
     }
 }
 

@@ -36,7 +36,6 @@ mul-scan-down c = search needs
 scan-down-requires : tie.Need-scan-down-requires
 scan-down-requires c κs = let i = c .before .before .before in let s = i .before .before in let a = s .args in
     let u = rw (toZ-ofZ (s .fits .want)) at (by-step _+ℤ_ (c .plus .result) (toZ w64 (ofZ w64 (a .want))) (c .before .step .result) (bit (a .bytes .now) (a .p - 1)) (c .plus .ok) (c .before .step .ok) (c .plus .ensures) (c .before .step .ensures ∙ ap step (c .before .before .opens .ensures))) in (
-      omega zarith,
       omega (zarith, s .pre .1, s .pre .0 .enough),
       omega (zarith, s .pre .1, s .pre .0 .small),
       stepped-near (a .bytes .now) (a .index .now) (a .m) (a .l) (a .p) (a .want) (s .pre .0) (s .pre .1) (i .if1 .left) (s .pre .2) _ u,
