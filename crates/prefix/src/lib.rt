@@ -28,14 +28,8 @@ fn depth_of(bytes: &[u8], from: usize, to: usize) -> i64
     requires { ⌜ (from ≤ to) × (to ≤ 8 * length (now bytes)) × (to ≤ 2097152) ⌝ }
     ensures { λ r. ⌜ r ≡ depthOf (bits (now (bytes .entry)) from (to - from)) ⌝ }
 {
-    let mut depth = 0i64;
-    let mut i = from;
-    while i < to {
-        let b = word::opens(bytes, i);
-        depth = walk::plus(depth, walk::step(b));
-        i += 1;
-    }
-    depth
+    let s = table::stretch(bytes, from, to);
+    walk::wide(s.total)
 }
 
 impl Rise {

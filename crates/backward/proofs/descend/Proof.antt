@@ -32,8 +32,13 @@ down-requires c κs = let a = c .before .before .before in
 
 loop-less : tie.Need-loop-less Inv-loop μ-loop
 loop-less c = let a = c .before .before .before .before in let s = a .before .args in let e = c .before .read .ensures in let b = c .before .before .if1 .taken in
-    omega (zarith, step-down (entryAt (s .index .now)) (s .l) (a .loop .w) b (c .down .result) (rw e at (c .down .ensures))
-    (rw e at (c .before .read .ok .1 .1 .0 .1 .1 .0 .1)) .child, a .loop .inv .above, b)
+    omega (
+      zarith,
+      step-down (entryAt (s .index .now)) (s .l) (a .loop .w) b (c .down .result) (rw e at (c .down .ensures))
+          (rw e at (c .before .read .ok .1 .1 .0 .1 .1 .0 .1)) .child,
+      a .loop .inv .above,
+      b,
+    )
 
 loop-again : tie.Need-loop-again Inv-loop μ-loop
 loop-again c = let a = c .before .before .before .before in let s = a .before .args in let e = c .before .read .ensures in let b = c .before .before .if1 .taken in
