@@ -103,7 +103,7 @@ pub fn random(
 ) -> Result<Tally, Difference> {
     let mut tally = Tally::default();
     for _ in 0..words {
-        let bits = shapes::length(most_bits, rng);
+        let bits = shapes::length(0, most_bits, rng);
         let shaped = shapes::shaped(bits, rng);
         tally += of_word(face, &shaped, mixtures, rng)?;
     }

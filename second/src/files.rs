@@ -264,7 +264,7 @@ impl Draft {
 
 /// A sound file of up to so many bits, or a damaged one; the reader of this program says which.
 pub fn random(most_bits: usize, rng: &mut Rng) -> Named {
-    let bits = shapes::length(most_bits.min(MAX_FILE_BITS), rng);
+    let bits = shapes::length(0, most_bits.min(MAX_FILE_BITS), rng);
     let shaped = shapes::shaped(bits, rng);
     let lineage = Lineage::new(shaped.bits).expect("a balanced shape");
     let most = rng.pick(&[1, 3, 50, 10_000]);

@@ -15,6 +15,11 @@ pub fn run(input: &[u8]) -> String {
     }
 }
 
+/// The question that a line of the printed answers belongs to.
+pub fn question_of_line(input: &[u8], line: usize) -> Option<Question> {
+    read(input).ok()?.questions.get(line).copied()
+}
+
 /// What has been read so far.
 #[derive(Default)]
 struct File {

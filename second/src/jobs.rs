@@ -60,12 +60,12 @@ pub fn gate() -> Vec<Job> {
             program::named_files(&s.program)
         })),
     ];
-    jobs.extend((0..shapes::shape_count()).map(|choice| few_blocks(choice, 258, 640)));
+    jobs.extend((0..shapes::shape_count()).map(|choice| few_blocks(choice, 258, 1_100)));
     jobs.push(job("damaged words up to 3,000 bits", |s, rng| {
         damage::random(&*s.face, 3_000, 150, 40, rng)
     }));
     jobs.extend((0..shapes::shape_count()).map(largest));
-    jobs.extend(random(6));
+    jobs.extend(random(12));
     jobs
 }
 
@@ -100,7 +100,7 @@ fn largest(choice: usize) -> Job {
     job("a largest word", move |s, rng| {
         let bits = MAX_BITS as usize - 2 * rng.below(3);
         let shaped = shapes::shaped_as(choice, bits, rng);
-        let mut tally = words::chosen_questions(&*s.face, &shaped, 6_000, rng)?;
+        let mut tally = words::chosen_questions(&*s.face, &shaped, 3_000, rng)?;
         tally += damage::few_of_word(&*s.face, &shaped, 3, rng)?;
         Ok(tally)
     })
@@ -110,13 +110,13 @@ fn random(times: usize) -> Vec<Job> {
     let mut jobs = Vec::new();
     for _ in 0..times {
         jobs.push(job("random words up to 5,000 bits", |s, rng| {
-            words::random(&*s.face, 5_000, 120, 3_000, rng)
+            words::random(&*s.face, (0, 5_000), 160, 3_000, rng)
         }));
         jobs.push(job("random words up to 100,000 bits", |s, rng| {
-            words::random(&*s.face, 100_000, 40, 5_000, rng)
+            words::random(&*s.face, (5_000, 100_000), 40, 5_000, rng)
         }));
         jobs.push(job("random words up to 2,097,152 bits", |s, rng| {
-            words::random(&*s.face, MAX_BITS as usize, 6, 5_000, rng)
+            words::random(&*s.face, (100_000, MAX_BITS as usize), 6, 3_000, rng)
         }));
         jobs.push(job("damaged words up to 20,000 bits", |s, rng| {
             damage::random(&*s.face, 20_000, 20, 40, rng)

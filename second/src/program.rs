@@ -80,8 +80,11 @@ fn printed(program: &Path, input: &[u8]) -> Result<String, String> {
 fn difference(file: &Named, expected: &str, got: &str) -> Difference {
     let line = expected.lines().zip(got.lines()).position(|(e, g)| e != g);
     let at = match line {
-        Some(line) => format!("line {} (from 0)", line),
-        None => "length".into(),
+        Some(line) => format!(
+            "line {line} from 0, {:?}",
+            house::question_of_line(&file.input, line)
+        ),
+        None => "its length".into(),
     };
     let shown = &file.input[..file.input.len().min(2_048)];
     Difference {

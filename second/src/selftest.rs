@@ -76,7 +76,7 @@ fn random_words(seed: u64) -> Result<Tally, String> {
     let mut tally = Tally::default();
     for (most_bits, words, blocks) in [(3_000, 300, 4), (60_000, 60, 64), (2_097_152, 12, 256)] {
         for _ in 0..words {
-            let bits = shapes::length(most_bits, &mut rng);
+            let bits = shapes::length(0, most_bits, &mut rng);
             let shaped = shapes::shaped(bits, &mut rng);
             let block_bits = rng.pick(&[256, blocks]);
             let lineage = Lineage::with_blocks(shaped.bits, block_bits)

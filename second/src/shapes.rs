@@ -73,16 +73,17 @@ pub fn shaped_as(choice: usize, bits: usize, rng: &mut Rng) -> Shaped {
     }
 }
 
-/// A length up to the limit: often at a block's edge or at an edge of the index's height.
-pub fn length(most_bits: usize, rng: &mut Rng) -> usize {
-    let highest = most_bits.max(2).ilog2();
-    let scale = 1usize << rng.within(1, highest as usize);
+/// A length between the limits, all scales alike: often at a block's edge or where the index grows.
+pub fn length(least_bits: usize, most_bits: usize, rng: &mut Rng) -> usize {
+    let most_bits = most_bits.min(MAX_BITS as usize);
+    let scales = least_bits.max(2).ilog2() as usize..=most_bits.max(2).ilog2() as usize;
+    let scale = 1usize << rng.within(*scales.start(), *scales.end());
     let bits = match rng.below(3) {
-        0 => rng.within(scale / 2, scale),
-        1 => scale - 2 * rng.below(2).min(scale / 2) + 2 * rng.below(2),
-        _ => scale / BLOCK_BITS * BLOCK_BITS + 2 * rng.below(3),
+        0 => rng.within(scale, 2 * scale),
+        1 => scale - 2 + 2 * rng.below(3),
+        _ => rng.within(scale, 2 * scale) / BLOCK_BITS * BLOCK_BITS + 2 * rng.below(3),
     };
-    bits.min(most_bits).min(MAX_BITS as usize) & !1
+    bits.clamp(least_bits, most_bits) & !1
 }
 
 fn repeat(bits: &[bool], times: usize) -> Vec<bool> {
@@ -249,8 +250,9 @@ mod tests {
     fn lengths_keep_the_limit() {
         let mut rng = Rng::new(2);
         for _ in 0..1_000 {
-            let bits = length(5_000, &mut rng);
-            assert!(bits <= 5_000 && bits % 2 == 0);
+            let bits = length(100, 5_000, &mut rng);
+            assert!((100..=5_000).contains(&bits) && bits % 2 == 0);
+            assert!(length(0, 4, &mut rng) <= 4);
         }
     }
 }

@@ -60,17 +60,17 @@ pub fn chosen_questions(
     Ok(tally)
 }
 
-/// Random words of up to so many bits.
+/// Random words of between so many bits.
 pub fn random(
     face: &dyn Face,
-    most_bits: usize,
+    (least_bits, most_bits): (usize, usize),
     words: usize,
     count: usize,
     rng: &mut Rng,
 ) -> Result<Tally, Difference> {
     let mut tally = Tally::default();
     for _ in 0..words {
-        let bits = shapes::length(most_bits, rng);
+        let bits = shapes::length(least_bits, most_bits, rng);
         let shaped = shapes::shaped(bits, rng);
         tally += chosen_questions(face, &shaped, count, rng)?;
     }
