@@ -103,7 +103,7 @@ impl Refusal {
                 "the room for answers is shorter than the questions: lend three numbers for each question"
             }
             Refusal::NotBalanced => {
-                "the row isn't balanced, an opening or a closing being missing or too many: have the whole row sent again"
+                "the row isn't balanced, an opening or a closing is missing or too many: have the row sent again"
             }
             Refusal::IndexDiffers => {
                 "the index isn't this row's, or was changed since it was built: build it again from the row"

@@ -65,7 +65,7 @@ pub fn gate() -> Vec<Job> {
         damage::random(&*s.face, 3_000, 150, 40, rng)
     }));
     jobs.extend((0..shapes::shape_count()).map(largest));
-    jobs.extend(random(12));
+    jobs.extend(random(8));
     jobs
 }
 

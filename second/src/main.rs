@@ -91,8 +91,9 @@ fn long(seconds: u64, seed: u64) -> Result<(), String> {
     println!("seed {seed}");
     examples::check()?;
     let mut whole = Tally::default();
-    let mut jobs: Vec<Job> = jobs::gate();
-    jobs.extend(jobs::long_once());
+    let mut skipped = 0;
+    let mut jobs: Vec<Job> = jobs::long_once();
+    jobs.extend(jobs::gate());
     for round in 0.. {
         println!("round {round}, seed {}", seed + round);
         let report = jobs::run(&setting, &jobs, seed + round);
@@ -100,6 +101,7 @@ fn long(seconds: u64, seed: u64) -> Result<(), String> {
             return finish(report);
         }
         whole += report.tally;
+        skipped += report.skipped;
         if Instant::now() > setting.deadline {
             break;
         }
@@ -107,7 +109,7 @@ fn long(seconds: u64, seed: u64) -> Result<(), String> {
     }
     finish(Report {
         tally: whole,
-        skipped: 0,
+        skipped,
         difference: None,
     })
 }
@@ -143,7 +145,7 @@ fn finish(report: Report) -> Result<(), String> {
         tally.words, tally.questions, tally.damaged, tally.files
     );
     if report.skipped > 0 {
-        println!("{} random parts left out for time", report.skipped);
+        println!("{} parts left out for time", report.skipped);
     }
     match report.difference {
         None => {
