@@ -1,4 +1,6 @@
 //! Damaged house files: the second program's sound and spoiled ones, damaged further byte by byte.
+// All damages have one type, also those that keep the length.
+#![allow(clippy::ptr_arg)]
 
 use std::fs;
 use std::io;
@@ -29,7 +31,9 @@ pub fn draw(rng: &mut Rng) -> (Vec<u8>, Vec<usize>) {
         }
     }
     let most = rng.pick(&[1, 3, 64, 5_000]);
-    let pieces = (0..rng.pick(&[0, 0, 1, 20])).map(|_| rng.within(1, most)).collect();
+    let pieces = (0..rng.pick(&[0, 0, 1, 20]))
+        .map(|_| rng.within(1, most))
+        .collect();
     (input, pieces)
 }
 
@@ -60,7 +64,18 @@ fn overwrite(input: &mut Vec<u8>, rng: &mut Rng) {
 
 /// Two or four bytes that spell an edge.
 fn number(input: &mut Vec<u8>, rng: &mut Rng) {
-    let value: u32 = rng.pick(&[0, 1, 12, 256, 65_535, 65_536, 65_537, 2_097_152, 1 << 31, u32::MAX]);
+    let value: u32 = rng.pick(&[
+        0,
+        1,
+        12,
+        256,
+        65_535,
+        65_536,
+        65_537,
+        2_097_152,
+        1 << 31,
+        u32::MAX,
+    ]);
     let bytes = value.to_be_bytes();
     let bytes = &bytes[rng.pick(&[0, 2])..];
     let at = place(input, rng);
@@ -117,7 +132,10 @@ pub fn write_seeds(folder: &Path) -> io::Result<()> {
     fs::create_dir_all(folder)?;
     let mut rng = Rng::new(3);
     let drawn = (0..8).map(|_| files::random(600, &mut rng));
-    let small = files::named().into_iter().chain(drawn).filter(|file| file.input.len() < 2_000);
+    let small = files::named()
+        .into_iter()
+        .chain(drawn)
+        .filter(|file| file.input.len() < 2_000);
     for (i, file) in small.enumerate() {
         fs::write(folder.join(format!("{i:03}.house")), file.input)?;
     }

@@ -24,11 +24,15 @@ fn main() -> ExitCode {
     let words: Vec<&str> = words.iter().map(String::as_str).collect();
     let outcome = match words[..] {
         ["many", program, seconds, seed, folder] => match (seconds.parse(), seed.parse()) {
-            (Ok(seconds), Ok(seed)) => many::run(Path::new(program), seconds, seed, Path::new(folder)),
+            (Ok(seconds), Ok(seed)) => {
+                many::run(Path::new(program), seconds, seed, Path::new(folder))
+            }
             _ => Err(USAGE.into()),
         },
         ["one", program] => one(Path::new(program)),
-        ["seeds", folder] => damage::write_seeds(Path::new(folder)).map_err(|error| error.to_string()),
+        ["seeds", folder] => {
+            damage::write_seeds(Path::new(folder)).map_err(|error| error.to_string())
+        }
         ["print"] => print(),
         _ => Err(USAGE.into()),
     };
@@ -43,7 +47,9 @@ fn main() -> ExitCode {
 
 fn standard_input() -> Result<Vec<u8>, String> {
     let mut input = Vec::new();
-    io::stdin().read_to_end(&mut input).map_err(|error| error.to_string())?;
+    io::stdin()
+        .read_to_end(&mut input)
+        .map_err(|error| error.to_string())?;
     Ok(input)
 }
 
@@ -58,5 +64,7 @@ fn one(program: &Path) -> Result<(), String> {
 
 fn print() -> Result<(), String> {
     let printed = house::run(&standard_input()?);
-    io::stdout().write_all(printed.as_bytes()).map_err(|error| error.to_string())
+    io::stdout()
+        .write_all(printed.as_bytes())
+        .map_err(|error| error.to_string())
 }

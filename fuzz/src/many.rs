@@ -57,7 +57,11 @@ impl Count {
         let name = folder.join(format!("{:02}", self.faults));
         let written = fs::write(name.with_extension("house"), input)
             .and_then(|()| fs::write(name.with_extension("txt"), fault.to_string()));
-        println!("{}.house: {}", name.display(), fault.to_string().lines().next().unwrap_or(""));
+        println!(
+            "{}.house: {}",
+            name.display(),
+            fault.to_string().lines().next().unwrap_or("")
+        );
         written.map_err(|error| error.to_string())
     }
 

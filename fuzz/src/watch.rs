@@ -33,7 +33,10 @@ impl fmt::Display for Fault {
             Fault::TimedOut => write!(to, "still running after {} seconds", LIMIT.as_secs()),
             Fault::Form(line) => write!(to, "neither `refused N` nor three numbers: {line:?}"),
             Fault::Differs { expected, got } => {
-                write!(to, "the reader prints\n{expected}but the program prints\n{got}")
+                write!(
+                    to,
+                    "the reader prints\n{expected}but the program prints\n{got}"
+                )
             }
         }
     }
@@ -72,7 +75,11 @@ fn printed(program: &Path, input: &[u8], pieces: &[usize]) -> Result<String, Fau
         .spawn()
         .map_err(not_run)?;
     let stdin = child.stdin.take().expect("a piped standard input");
-    let stdout = child.stdout.take().expect("a piped standard output").take(MOST_TEXT);
+    let stdout = child
+        .stdout
+        .take()
+        .expect("a piped standard output")
+        .take(MOST_TEXT);
     thread::scope(|scope| {
         scope.spawn(|| hand_over(stdin, input, pieces));
         let reader = scope.spawn(move || std::io::read_to_string(stdout));
@@ -124,7 +131,15 @@ mod tests {
         for text in ["", "refused 31\n", "0 3 0\n16 0 0\n"] {
             assert!(text.lines().all(|line| has_form(text, line)), "{text:?}");
         }
-        for text in ["\n", "refused\n", "refused 31\n0 3 0\n", "0 3\n", "0  3 0\n", "0 -3 0\n", "0 3 0 \n"] {
+        for text in [
+            "\n",
+            "refused\n",
+            "refused 31\n0 3 0\n",
+            "0 3\n",
+            "0  3 0\n",
+            "0 -3 0\n",
+            "0 3 0 \n",
+        ] {
             assert!(!text.lines().all(|line| has_form(text, line)), "{text:?}");
         }
     }
