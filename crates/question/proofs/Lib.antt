@@ -6,4 +6,5 @@ pub mod Demands
 pub mod Least
 pub mod Marked
 pub mod Ranges
+pub mod Settled
 pub mod Sound
