@@ -11,7 +11,7 @@ use Rattle.house.specs.declared.State.{State}
 use Rattle.house.specs.declared.House.{House}
 use Rattle.house.specs.declared.Field.{Field}
 use Rattle.house.specs.declared.Field.the-variants.{Bad, Size, Word, Question}
-use Rattle.house.specs.Field.{fourAt, valueAt, bytesOf, fieldAt}
+use Rattle.house.specs.Fields.{fourAt, valueAt, bytesOf, fieldAt}
 
 -- before the first field
 abbrev pub start : State

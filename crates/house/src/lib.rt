@@ -4,7 +4,7 @@ ghost use mathlib.Core.Path.{_≡_};
 ghost use Prim.Native.Nat.{_+_, _*_, _<_, _≤_};
 ghost use lib.ListN.{length};
 ghost use lib.Seq.{sets};
-ghost use Rattle.house.specs.Field.{twoAt, fourAt, valueAt, bytesOf, cutShort, unknownTag, outOfPlace, wrongLength, sizeField, wordField, questionField, fieldAt};
+ghost use Rattle.house.specs.Fields.{twoAt, fourAt, valueAt, bytesOf, cutShort, unknownTag, outOfPlace, wrongLength, sizeField, wordField, questionField, fieldAt};
 ghost use Rattle.house.specs.File.{threeOf, Read, refused, ended, start as Spec·start, sized as Spec·sized, worded as Spec·worded, questioned as Spec·questioned};
 
 // What the fields before the place `at` have told. The stage is 0 before the first field, 1 where the
@@ -61,7 +61,7 @@ impl State {
     }
 
     fn worded(self, len: usize) -> Self
-        requires { ⌜ (self .at ≤ 49152) × ((self .bytes ≤ 8192) × (len < 65536)) ⌝ }
+        requires { ⌜ (self .at ≤ 49152) × (self .bytes + len ≤ 8192) ⌝ }
         ensures { λ r. ⌜ r ≡ Spec·worded self len ⌝ }
     {
         State {

@@ -10,13 +10,14 @@ use Rattle.text.proofs.Numbers.{number-few}
 
 pub line-few : (code result reads : ℕ) → length (line code result reads) ≤ 33
 line-few code result reads =
-    omega
-    (arith,
-    length-append (number code 32) (number result 32 ++ number reads 10),
-    length-append (number result 32) (number reads 10),
-    number-few code 32,
-    number-few result 32,
-    number-few reads 10)
+    omega (
+      arith,
+      length-append (number code 32) (number result 32 ++ number reads 10),
+      length-append (number result 32) (number reads 10),
+      number-few code 32,
+      number-few result 32,
+      number-few reads 10,
+    )
 
 -- eleven bytes for each number of an answer
 pub lines-few : (answers : List ℕ) → length (lines answers) ≤ 11 * length answers

@@ -1,119 +1,114 @@
+-- `house::field_at` meets its contract: each test that it made, and then the field's last one. Assumes nothing.
+use mathlib.Core.Path.{sym, ap, _∙_}
+use Prim.Native.Nat.{_+_}
+use native.Mathlib.Omega.{arith}
 use borrow.Author.Needs.{needs}
+use borrow.Author.Tests.{ltb-false}
+use lib.ListN.{length}
+use Rattle.house.specs.Fields.{tagAt, lengthAt, wrongLength, sizeField, wordField}
+use Rattle.house.proofs.Fields.{by-one, by-two, by-three, length-four, field-cut, field-unknown, field-misplaced, field-wrong, field-last}
 use Rattle.house.proofs.field_at.Statement.{statement}
 use Rattle.house.proofs.field_at.Tie as tie
-use Rattle.house.proofs.field_at.Reads as reads
-use Rattle.house.proofs.field_at.Lts as lts
-use Rattle.house.proofs.cut_short.Reads as cut-short-reads
-use Rattle.house.proofs.four_at.Reads as four-at-reads
-use Rattle.house.proofs.out_of_place.Reads as out-of-place-reads
-use Rattle.house.proofs.question_field.Reads as question-field-reads
-use Rattle.house.proofs.size_field.Reads as size-field-reads
-use Rattle.house.proofs.two_at.Reads as two-at-reads
-use Rattle.house.proofs.unknown_tag.Reads as unknown-tag-reads
-use Rattle.house.proofs.word_field.Reads as word-field-reads
-use Rattle.house.proofs.wrong_length.Reads as wrong-length-reads
 
--- src/lib.rt:200:8
 cut-short-requires : tie.Need-cut-short-requires
 cut-short-requires c κs = search needs
 
--- src/lib.rt:201:9
 returns : tie.Need-returns
-returns c = ?
+returns c =
+    let s = c .before .before .before .args in
+    field-cut (s .file .now) (s .s) (sym (c .before .cut-short .ensures) ∙ c .if1 .taken)
 
--- src/lib.rt:203:15
 shared-slice-read-tag : tie.Need-shared-slice-read-tag
 shared-slice-read-tag c = search needs
 
--- src/lib.rt:204:8
 unknown-tag-requires : tie.Need-unknown-tag-requires
 unknown-tag-requires c κs = search needs
 
--- src/lib.rt:205:9
 returns-2 : tie.Need-returns-2
-returns-2 c = ?
+returns-2 c =
+    let s = c .before .before .before .before .before .before .args in
+    let a = sym (c .before .before .before .before .cut-short .ensures) ∙ c .before .before .before .if1 .left in
+    field-unknown (s .file .now) (s .s) a (sym (c .before .unknown-tag .ensures) ∙ c .if2 .taken)
 
--- src/lib.rt:207:8
 out-of-place-requires : tie.Need-out-of-place-requires
 out-of-place-requires c κs = search needs
 
--- src/lib.rt:208:9
 returns-3 : tie.Need-returns-3
-returns-3 c = ?
+returns-3 c =
+    let s = c .before .before .before .before .before .before .before .before .args in
+    let a = sym (c .before .before .before .before .before .before .cut-short .ensures) ∙ c .before .before .before .before .before .if1 .left in
+    let b = sym (c .before .before .before .unknown-tag .ensures) ∙ c .before .before .if2 .left in
+    field-misplaced (s .file .now) (s .s) a b (sym (c .before .out-of-place .ensures) ∙ c .if3 .taken)
 
--- src/lib.rt:210:28
 add-two-at : tie.Need-add-two-at
 add-two-at c = search needs
 
--- src/lib.rt:210:15
 two-at-requires : tie.Need-two-at-requires
-two-at-requires c κs = ?
+two-at-requires c κs =
+    let s = c .before .before .before .before .before .before .before .before .args in
+    let a = sym (c .before .before .before .before .before .before .cut-short .ensures) ∙ c .before .before .before .before .before .if1 .left in
+    omega (arith, ltb-false (length (s .file .now)) (s .s .at + 3 + lengthAt (s .file .now) (s .s .at)) a)
 
--- src/lib.rt:210:15
 cast-len : tie.Need-cast-len
 cast-len c = search needs
 
--- src/lib.rt:211:8
 wrong-length-requires : tie.Need-wrong-length-requires
 wrong-length-requires c κs = search needs
 
--- src/lib.rt:212:9
 returns-4 : tie.Need-returns-4
-returns-4 c = ?
+returns-4 c =
+    let s = c .before .before .before .before .before .before .before .before .before .before .before .args in
+    let a = sym (c .before .before .before .before .before .before .before .before .before .cut-short .ensures) ∙ c .before .before .before .before .before .before .before .before .if1 .left in
+    let b = sym (c .before .before .before .before .before .before .unknown-tag .ensures) ∙ c .before .before .before .before .before .if2 .left in
+    let d = sym (c .before .before .before .before .out-of-place .ensures) ∙ c .before .before .before .if3 .left in
+    let e = sym (c .before .wrong-length .ensures ∙ ap (wrongLength (tagAt (s .file .now) (s .s .at))) (c .before .before .two-at .ensures .0)) ∙ c .if4 .taken in
+    field-wrong (s .file .now) (s .s) a b d e
 
--- src/lib.rt:215:39
 add-four-at : tie.Need-add-four-at
 add-four-at c = search needs
 
--- src/lib.rt:215:25
 four-at-requires : tie.Need-four-at-requires
-four-at-requires c κs = ?
+four-at-requires c κs =
+    let s = c .before .before .before .before .before .before .before .before .before .before .before .before .args in
+    let a = sym (c .before .before .before .before .before .before .before .before .before .before .cut-short .ensures) ∙ c .before .before .before .before .before .before .before .before .before .if1 .left in
+    let e = sym (c .before .before .wrong-length .ensures ∙ ap (wrongLength (tagAt (s .file .now) (s .s .at))) (c .before .before .before .two-at .ensures .0)) ∙ c .before .if4 .left in
+    omega (arith, ltb-false (length (s .file .now)) (s .s .at + 3 + lengthAt (s .file .now) (s .s .at)) a, length-four (tagAt (s .file .now) (s .s .at)) (lengthAt (s .file .now) (s .s .at)) (c .match .keys1) e)
 
--- src/lib.rt:215:14
 size-field-requires : tie.Need-size-field-requires
 size-field-requires c κs = search needs
 
--- src/lib.rt:216:14
 word-field-requires : tie.Need-word-field-requires
 word-field-requires c κs = search needs
 
--- src/lib.rt:217:14
 question-field-requires : tie.Need-question-field-requires
 question-field-requires c κs = search needs
 
--- src/lib.rt:195:1
 returns-5 : tie.Need-returns-5
-returns-5 c = ?
+returns-5 c =
+    let s = c .before .before .before .before .before .before .before .before .before .before .before .before .before .before .args in
+    let a = sym (c .before .before .before .before .before .before .before .before .before .before .before .before .cut-short .ensures) ∙ c .before .before .before .before .before .before .before .before .before .before .before .if1 .left in
+    let b = sym (c .before .before .before .before .before .before .before .before .before .unknown-tag .ensures) ∙ c .before .before .before .before .before .before .before .before .if2 .left in
+    let d = sym (c .before .before .before .before .before .before .before .out-of-place .ensures) ∙ c .before .before .before .before .before .before .if3 .left in
+    let e = sym (c .before .before .before .before .wrong-length .ensures ∙ ap (wrongLength (tagAt (s .file .now) (s .s .at))) (c .before .before .before .before .before .two-at .ensures .0)) ∙ c .before .before .before .if4 .left in
+    c .size-field .ensures ∙ ap sizeField (c .before .four-at .ensures) ∙ by-one _ _ _ _ (c .before .before .match .keys1) ∙ field-last (s .file .now) (s .s) a b d e
 
--- src/lib.rt:195:1
 returns-6 : tie.Need-returns-6
-returns-6 c = ?
+returns-6 c =
+    let s = c .before .before .before .before .before .before .before .before .before .before .before .before .before .args in
+    let a = sym (c .before .before .before .before .before .before .before .before .before .before .before .cut-short .ensures) ∙ c .before .before .before .before .before .before .before .before .before .before .if1 .left in
+    let b = sym (c .before .before .before .before .before .before .before .before .unknown-tag .ensures) ∙ c .before .before .before .before .before .before .before .if2 .left in
+    let d = sym (c .before .before .before .before .before .before .out-of-place .ensures) ∙ c .before .before .before .before .before .if3 .left in
+    let e = sym (c .before .before .before .wrong-length .ensures ∙ ap (wrongLength (tagAt (s .file .now) (s .s .at))) (c .before .before .before .before .two-at .ensures .0)) ∙ c .before .before .if4 .left in
+    c .word-field .ensures ∙ ap (wordField (s .s)) (c .before .before .before .before .two-at .ensures .0) ∙ by-two _ _ _ _ (c .before .match .keys2) ∙ field-last (s .file .now) (s .s) a b d e
 
--- src/lib.rt:195:1
 returns-7 : tie.Need-returns-7
-returns-7 c = ?
+returns-7 c =
+    let s = c .before .before .before .before .before .before .before .before .before .before .before .before .before .args in
+    let a = sym (c .before .before .before .before .before .before .before .before .before .before .before .cut-short .ensures) ∙ c .before .before .before .before .before .before .before .before .before .before .if1 .left in
+    let b = sym (c .before .before .before .before .before .before .before .before .unknown-tag .ensures) ∙ c .before .before .before .before .before .before .before .if2 .left in
+    let d = sym (c .before .before .before .before .before .before .out-of-place .ensures) ∙ c .before .before .before .before .before .if3 .left in
+    let e = sym (c .before .before .before .wrong-length .ensures ∙ ap (wrongLength (tagAt (s .file .now) (s .s .at))) (c .before .before .before .before .two-at .ensures .0)) ∙ c .before .before .if4 .left in
+    c .question-field .ensures ∙ by-three _ _ _ _ (c .before .match .rest .0 .1) (c .before .match .rest .1) ∙ field-last (s .file .now) (s .s) a b d e
 
 pub field-at-spec : {M : Type 1} → statement M
-field-at-spec =
-    tie.close
-    (tie.spec
-    cut-short-requires
-    returns
-    shared-slice-read-tag
-    unknown-tag-requires
-    returns-2
-    out-of-place-requires
-    returns-3
-    add-two-at
-    two-at-requires
-    cast-len
-    wrong-length-requires
-    returns-4
-    add-four-at
-    four-at-requires
-    size-field-requires
-    word-field-requires
-    question-field-requires
-    returns-5
-    returns-6
-    returns-7)
+field-at-spec = tie.close (tie.spec cut-short-requires returns shared-slice-read-tag unknown-tag-requires returns-2 out-of-place-requires returns-3 add-two-at two-at-requires cast-len wrong-length-requires returns-4 add-four-at four-at-requires size-field-requires word-field-requires question-field-requires returns-5 returns-6 returns-7)

@@ -1,162 +1,152 @@
+-- `house::read` meets its contract. The invariant is `Reading`: what is still to come, laid over the lent slices as they are, gives what the whole file gives.
+-- The measure is what is left of the file. Each arm cites the law of its kind of field. Assumes nothing.
+use mathlib.Core.Path.{sym, ap, _∙_}
+use Prim.Native.Nat.{_-_}
+use native.Mathlib.Omega.{arith}
+use borrow.Author.Needs.{needs}
+use lib.ListN.{length}
+use Rattle.house.proofs.Fields.{sound-as}
+use Rattle.house.proofs.Steps.{value-length}
+use Rattle.house.proofs.Loop.{Reading, too-long, begins, stops, past-size, past-word, past-question, ends}
 use Rattle.house.proofs.read.Statement.{statement}
 use Rattle.house.proofs.read.Tie as tie
-use Rattle.house.proofs.read.Reads as reads
-use Rattle.house.proofs.read.Lts as lts
-use Rattle.fill.proofs.copy.Reads as copy-reads
-use Rattle.house.proofs.State.questioned.Reads as questioned-reads
-use Rattle.house.proofs.State.sized.Reads as sized-reads
-use Rattle.house.proofs.State.start.Reads as start-reads
-use Rattle.house.proofs.State.worded.Reads as worded-reads
-use Rattle.house.proofs.ending.Reads as ending-reads
-use Rattle.house.proofs.field_at.Reads as field-at-reads
-use Rattle.house.proofs.put_three.Reads as put-three-reads
-use Rattle.house.proofs.refusing.Reads as refusing-reads
-use Rattle.house.proofs.value.Reads as value-reads
 
 abbrev Inv-loop : tie.InvT-loop
-Inv-loop file word₀ numbers₀ s₀ word numbers s = ?
+Inv-loop file word₀ numbers₀ s₀ word numbers s = Reading file word₀ numbers₀ word numbers s
 
 abbrev μ-loop : tie.MeasureT-loop
-μ-loop file word₀ numbers₀ s₀ word numbers s = ?
+μ-loop file word₀ numbers₀ s₀ word numbers s = length file - s .at
 
--- src/lib.rt:265:9
 refusing-requires : tie.Need-refusing-requires Inv-loop μ-loop
-refusing-requires c κs = ?
+refusing-requires c κs = search needs
 
--- src/lib.rt:265:9
 returns : tie.Need-returns Inv-loop μ-loop
-returns c = ?
+returns c =
+    let a = c .before .before .before .args in
+    rw (c .refusing .ensures) (too-long (a .file .now) (a .word .now) (a .numbers .now) (c .before .if1 .taken))
 
--- src/lib.rt:267:9
 start-requires : tie.Need-start-requires Inv-loop μ-loop
-start-requires c κs = ?
+start-requires c κs = search needs
 
--- src/lib.rt:268:5
 loop-holds : tie.Need-loop-holds Inv-loop μ-loop
-loop-holds c = ?
+loop-holds c =
+    let a = c .before .before .before .args in
+    rw (c .start .ensures) (begins (a .file .now) (a .word .now) (a .numbers .now) (c .before .if1 .left))
 
--- src/lib.rt:269:13
 field-at-requires : tie.Need-field-at-requires Inv-loop μ-loop
-field-at-requires c κs = ?
+field-at-requires c κs = search needs
 
--- src/lib.rt:271:24
 enum-known-f : tie.Need-enum-known-f Inv-loop μ-loop
-enum-known-f c = ?
+enum-known-f c = search needs
 
--- src/lib.rt:272:17
 refusing-requires-2 : tie.Need-refusing-requires-2 Inv-loop μ-loop
-refusing-requires-2 c κs = ?
+refusing-requires-2 c κs = search needs
 
--- src/lib.rt:272:17
 returns-2 : tie.Need-returns-2 Inv-loop μ-loop
-returns-2 c = ?
+returns-2 c =
+    let a = c .before .before .before .before .before .before .before .before .before .before .before .args in
+    let l = c .before .before .before .before .before .before .before .loop in
+    let e = sym (c .before .before .before .before .field-at .ensures) ∙ c .before .before .f .given .1 in
+    rw (c .refusing2 .ensures) (stops (a .file .now) (a .word .now) (a .numbers .now) (l .word) (l .numbers) (l .s) (l .inv) (c .before .before .before .before .before .if2 .taken) _ e)
 
--- src/lib.rt:274:25
 enum-known-f-2 : tie.Need-enum-known-f-2 Inv-loop μ-loop
-enum-known-f-2 c = ?
+enum-known-f-2 c = search needs
 
--- src/lib.rt:275:17
 sized-requires : tie.Need-sized-requires Inv-loop μ-loop
-sized-requires c κs = ?
+sized-requires c κs = search needs
 
--- src/lib.rt:268:5
 loop-less : tie.Need-loop-less Inv-loop μ-loop
-loop-less c = ?
+loop-less c = omega (arith, ap (λ s. s .at) (c .sized .ensures))
 
--- src/lib.rt:268:5
 loop-again : tie.Need-loop-again Inv-loop μ-loop
-loop-again c = ?
+loop-again c =
+    let a = c .before .before .before .before .before .before .before .before .before .before .before .args in
+    let l = c .before .before .before .before .before .before .before .loop in
+    let e = sym (c .before .before .before .before .field-at .ensures) ∙ c .before .before .f2 .given .1 in
+    rw (c .sized .ensures) (past-size (a .file .now) (a .word .now) (a .numbers .now) (l .word) (l .numbers) (l .s) (l .inv) (c .before .before .before .before .before .if2 .taken) _ e)
 
--- src/lib.rt:277:25
 enum-known-f-3 : tie.Need-enum-known-f-3 Inv-loop μ-loop
-enum-known-f-3 c = ?
+enum-known-f-3 c = search needs
 
--- src/lib.rt:278:28
 value-requires : tie.Need-value-requires Inv-loop μ-loop
-value-requires c κs = ?
+value-requires c κs =
+    let a = c .before .before .before .before .before .before .before .before .before .before .args in
+    let l = c .before .before .before .before .before .before .loop in
+    let e = sym (c .before .before .before .field-at .ensures) ∙ c .before .f3 .given .1 in
+    sound-as (a .file .now) (l .s) _ e .0
 
--- src/lib.rt:278:17
 copy-requires : tie.Need-copy-requires Inv-loop μ-loop
-copy-requires c κs = ?
+copy-requires c κs =
+    let a = c .before .before .before .before .before .before .before .before .before .before .before .before .args in
+    let l = c .before .before .before .before .before .before .before .before .loop in
+    let e = sym (c .before .before .before .before .before .field-at .ensures) ∙ c .before .before .before .f3 .given .1 in
+    let b = sound-as (a .file .now) (l .s) _ e in
+    omega (arith, l .inv .steady .small, ap length (c .before .value .ensures) ∙ value-length (a .file .now) (l .s .at) _ (b .0))
 
--- src/lib.rt:279:17
 worded-requires : tie.Need-worded-requires Inv-loop μ-loop
-worded-requires c κs = ?
+worded-requires c κs =
+    let a = c .before .before .before .before .before .before .before .before .before .before .before .before .before .args in
+    let l = c .before .before .before .before .before .before .before .before .before .loop in
+    let e = sym (c .before .before .before .before .before .before .field-at .ensures) ∙ c .before .before .before .before .f3 .given .1 in
+    let b = sound-as (a .file .now) (l .s) _ e in
+    omega (arith, l .inv .steady .small)
 
--- src/lib.rt:268:5
 loop-less-2 : tie.Need-loop-less-2 Inv-loop μ-loop
-loop-less-2 c = ?
+loop-less-2 c = omega (arith, ap (λ s. s .at) (c .worded .ensures))
 
--- src/lib.rt:268:5
 loop-again-2 : tie.Need-loop-again-2 Inv-loop μ-loop
-loop-again-2 c = ?
+loop-again-2 c =
+    let a = c .before .before .before .before .before .before .before .before .before .before .before .before .before .before .args in
+    let l = c .before .before .before .before .before .before .before .before .before .before .loop in
+    let e = sym (c .before .before .before .before .before .before .before .field-at .ensures) ∙ c .before .before .before .before .before .f3 .given .1 in
+    rw (c .worded .ensures, c .before .copy .ensures, c .before .before .before .value .ensures) (past-word (a .file .now) (a .word .now) (a .numbers .now) (l .word) (l .numbers) (l .s) (l .inv) (c .before .before .before .before .before .before .before .before .if2 .taken) _ e)
 
--- src/lib.rt:282:27
 enum-told : tie.Need-enum-told Inv-loop μ-loop
-enum-told c = ?
+enum-told c = search needs
 
--- src/lib.rt:282:27
 value-requires-2 : tie.Need-value-requires-2 Inv-loop μ-loop
-value-requires-2 c κs = ?
+value-requires-2 c κs =
+    let a = c .before .before .before .before .before .before .before .before .before .args in
+    let l = c .before .before .before .before .before .loop in
+    let e = sym (c .before .before .field-at .ensures) ∙ c .enum-told .given .1 in
+    omega (arith, sound-as (a .file .now) (l .s) _ e .0)
 
--- src/lib.rt:282:59
 mul-put-three : tie.Need-mul-put-three Inv-loop μ-loop
-mul-put-three c = ?
+mul-put-three c =
+    let l = c .before .before .before .before .before .before .before .before .loop in
+    omega (arith, l .inv .steady .few)
 
--- src/lib.rt:282:17
 put-three-requires : tie.Need-put-three-requires Inv-loop μ-loop
-put-three-requires c κs = ?
+put-three-requires c κs =
+    let a = c .before .before .before .before .before .before .before .before .before .before .before .before .args in
+    let l = c .before .before .before .before .before .before .before .before .loop in
+    let e = sym (c .before .before .before .before .before .field-at .ensures) ∙ c .before .before .before .enum-told .given .1 in
+    let b = sound-as (a .file .now) (l .s) _ e in
+    (ap length (c .before .before .value2 .ensures) ∙ value-length (a .file .now) (l .s .at) 12 (omega arith), omega arith)
 
--- src/lib.rt:283:17
 questioned-requires : tie.Need-questioned-requires Inv-loop μ-loop
-questioned-requires c κs = ?
+questioned-requires c κs =
+    let l = c .before .before .before .before .before .before .before .before .before .loop in
+    omega (arith, l .inv .steady .few)
 
--- src/lib.rt:268:5
 loop-less-3 : tie.Need-loop-less-3 Inv-loop μ-loop
-loop-less-3 c = ?
+loop-less-3 c = omega (arith, ap (λ s. s .at) (c .questioned .ensures))
 
--- src/lib.rt:268:5
 loop-again-3 : tie.Need-loop-again-3 Inv-loop μ-loop
-loop-again-3 c = ?
+loop-again-3 c =
+    let a = c .before .before .before .before .before .before .before .before .before .before .before .before .before .before .args in
+    let l = c .before .before .before .before .before .before .before .before .before .before .loop in
+    let e = sym (c .before .before .before .before .before .before .before .field-at .ensures) ∙ c .before .before .before .before .before .enum-told .given .1 in
+    rw (c .questioned .ensures, c .before .put-three .ensures, c .before .before .before .before .value2 .ensures) (past-question (a .file .now) (a .word .now) (a .numbers .now) (l .word) (l .numbers) (l .s) (l .inv) (c .before .before .before .before .before .before .before .before .if2 .taken) e)
 
--- src/lib.rt:287:5
 ending-requires : tie.Need-ending-requires Inv-loop μ-loop
-ending-requires c κs = ?
+ending-requires c κs = search needs
 
--- src/lib.rt:261:1
 returns-3 : tie.Need-returns-3 Inv-loop μ-loop
-returns-3 c = ?
+returns-3 c =
+    let a = c .before .before .before .before .before .before .before .args in
+    let l = c .before .before .before .loop in
+    rw (c .ending .ensures) (ends (a .file .now) (a .word .now) (a .numbers .now) (l .word) (l .numbers) (l .s) (l .inv) (c .before .if2 .left))
 
 pub read-spec : {M : Type 1} → statement M
-read-spec =
-    tie.close
-    (tie.spec
-    Inv-loop
-    μ-loop
-    refusing-requires
-    returns
-    start-requires
-    loop-holds
-    field-at-requires
-    enum-known-f
-    refusing-requires-2
-    returns-2
-    enum-known-f-2
-    sized-requires
-    loop-less
-    loop-again
-    enum-known-f-3
-    value-requires
-    copy-requires
-    worded-requires
-    loop-less-2
-    loop-again-2
-    enum-told
-    value-requires-2
-    mul-put-three
-    put-three-requires
-    questioned-requires
-    loop-less-3
-    loop-again-3
-    ending-requires
-    returns-3)
+read-spec = tie.close (tie.spec Inv-loop μ-loop refusing-requires returns start-requires loop-holds field-at-requires enum-known-f refusing-requires-2 returns-2 enum-known-f-2 sized-requires loop-less loop-again enum-known-f-3 value-requires copy-requires worded-requires loop-less-2 loop-again-2 enum-told value-requires-2 mul-put-three put-three-requires questioned-requires loop-less-3 loop-again-3 ending-requires returns-3)

@@ -1,15 +1,13 @@
+-- `house::size_field` meets its contract. Assumes nothing.
+use borrow.Author.Tests.{lt-ltb, le-ltb}
 use Rattle.house.proofs.size_field.Statement.{statement}
 use Rattle.house.proofs.size_field.Tie as tie
-use Rattle.house.proofs.size_field.Reads as reads
-use Rattle.house.proofs.size_field.Lts as lts
 
--- src/lib.rt:170:9
 returns : tie.Need-returns
-returns c = ?
+returns c = simp (lt-ltb _ _ (c .if1 .taken))
 
--- src/lib.rt:166:1
 returns-2 : tie.Need-returns-2
-returns-2 c = ?
+returns-2 c = simp (le-ltb _ _ (c .if1 .left))
 
 pub size-field-spec : {M : Type 1} → statement M
 size-field-spec = tie.close (tie.spec returns returns-2)

@@ -30,6 +30,10 @@ valueAt file at len = take len (drop (at + 3) file)
 abbrev pub bytesOf : ℕ → ℕ
 bytesOf m = (m + 7) / 8
 
+-- what is said of a field of tag 1, of tag 2 and of tag 3
+abbrev pub byTag : {A : Type 0} → ℕ → A → A → A → A
+byTag tag one two three = cond (eqb tag 1) one (cond (eqb tag 2) two three)
+
 -- "31 cut short": the field's head or its value reaches past the end
 abbrev pub cutShort : List ℕ → ℕ → Bool
 cutShort file at = ltb (length file) (at + 3 + lengthAt file at)
@@ -38,15 +42,15 @@ cutShort file at = ltb (length file) (at + 3 + lengthAt file at)
 abbrev pub unknownTag : ℕ → Bool
 unknownTag tag = cond (eqb tag 0) true (ltb 3 tag)
 
--- "33 out of place": tag 1 "comes once, first", so no other comes before it; "tag 2 never follows tag 3"
+-- "33 out of place": tag 1 "comes once, first", so nothing comes before it; "tag 2 never follows tag 3"
 abbrev pub outOfPlace : ℕ → ℕ → Bool
-outOfPlace tag stage = cond (eqb tag 1) (not (eqb stage 0)) (cond (eqb tag 2) (not (eqb stage 1)) (eqb stage 0))
+outOfPlace tag stage = byTag tag (not (eqb stage 0)) (not (eqb stage 1)) (eqb stage 0)
 
 -- "34 wrong length": "Tag 1 (length 4)", "Tag 2 (length 1 or more)", "Tag 3 (length 12)"
 abbrev pub wrongLength : ℕ → ℕ → Bool
-wrongLength tag len = cond (eqb tag 1) (not (eqb len 4)) (cond (eqb tag 2) (eqb len 0) (not (eqb len 12)))
+wrongLength tag len = byTag tag (not (eqb len 4)) (eqb len 0) (not (eqb len 12))
 
--- "35 m over 65,536, more than ceil(m/8) word bytes, or a 1,025th question"; a field with no fault is what its tag says
+-- "35 m over 65,536, more than ceil(m/8) word bytes, or a 1,025th question"; a field without fault is what its tag says
 abbrev pub sizeField : ℕ → Field
 sizeField m = cond (ltb 65536 m) (Bad 35) (Size m)
 
@@ -57,9 +61,9 @@ abbrev pub questionField : State → Field
 questionField s = cond (ltb 1023 (s .asked)) (Bad 35) Question
 
 abbrev pub lastTest : List ℕ → State → ℕ → ℕ → Field
-lastTest file s tag len = cond (eqb tag 1) (sizeField (fourAt file (s .at + 3))) (cond (eqb tag 2) (wordField s len) (questionField s))
+lastTest file s tag len = byTag tag (sizeField (fourAt file (s .at + 3))) (wordField s len) (questionField s)
 
--- the field where the state stands, its faults "in this order"
+-- the field where the state stands: its faults "in this order"
 abbrev pub fieldAt : List ℕ → State → Field
 fieldAt file s =
     cond (cutShort file (s .at)) (Bad 31)
