@@ -1,6 +1,6 @@
 -- Writing one list over a part of another: `sets l i vs` is l with vs over it from place i on.
 -- These are the laws that lib.Seq lacks; each crate that fills a lent slice cites them. Assumes nothing.
-use mathlib.Core.Path.{_≡_, refl, sym, ap, _∙_}
+use mathlib.Core.Path.{_≡_, sym, ap, _∙_}
 use mathlib.Core.List.{List, [], _∷_, _++_}
 use Prim.Native.Nat.{ℕ, suc, _+_, _<_, _≤_}
 use native.Mathlib.Numerals.{add-one}

@@ -22,25 +22,32 @@ abbrev second : List ℕ
 second = 3 ∷ 0 ∷ 12 ∷ 0 ∷ 0 ∷ 0 ∷ 6 ∷ 0 ∷ 0 ∷ 0 ∷ 10 ∷ 0 ∷ 0 ∷ 0 ∷ 0 ∷ []
 
 shown : readOf (twelve ++ (bytes ++ (first ++ second))) ≡ record { house = record { code = 0; m = 12; bytes = 2; asked = 2 }; bytes = 0x5B ∷ 0x04 ∷ []; numbers = 12 ∷ 4 ∷ 6 ∷ 6 ∷ 10 ∷ 0 ∷ [] }
+unfolding readOf
 shown = refl
 
 -- "31 cut short, also for empty input"; a lone unknown byte is cut short first
 none : readOf [] .house .code ≡ 31
+unfolding readOf
 none = refl
 
 lone : readOf (9 ∷ []) .house .code ≡ 31
+unfolding readOf
 lone = refl
 
 unknown : readOf (9 ∷ 0 ∷ 0 ∷ []) .house .code ≡ 32
+unfolding readOf
 unknown = refl
 
 -- "Tag 2 never follows tag 3"
 late : readOf (twelve ++ (first ++ bytes)) .house .code ≡ 33
+unfolding readOf
 late = refl
 
 -- "more than ceil(m/8) word bytes", and fewer
 much : readOf (twelve ++ (bytes ++ bytes)) .house .code ≡ 35
+unfolding readOf
 much = refl
 
 few : readOf (twelve ++ first) .house .code ≡ 2
+unfolding readOf
 few = refl

@@ -1,7 +1,7 @@
 -- The loop of `read`: what is still to be gathered, laid over the lent slices as they are, gives what the whole file gives.
 -- Also that what `read` promises leaves no choice. Assumes nothing.
 use mathlib.Core.Path.{_≡_, refl, sym, ap, _∙_}
-use mathlib.Core.List.{List, []}
+use mathlib.Core.List.{List}
 use Prim.Native.Nat.{ℕ, zero, suc, _+_, _*_, _<_, _≤_}
 use native.Mathlib.Omega.{arith}
 use borrow.Author.Tests.{lt-ltb, le-ltb}
@@ -42,9 +42,11 @@ read-of file word numbers word′ numbers′ h i j e = record { house-is = ap (�
 
 module _ (file word₀ numbers₀ : List ℕ) where
   pub too-long : 49152 < length file → Read file word₀ numbers₀ (refused 35) word₀ numbers₀
+  unfolding readOf
   too-long h = read-of file word₀ numbers₀ word₀ numbers₀ (refused 35) 0 0 (let e : only (refused 35) ≡ readOf file = simp (lt-ltb 49152 (length file) h) in ap (lay word₀ 0 numbers₀ 0) e)
 
   pub begins : length file ≤ 49152 → Reading file word₀ numbers₀ word₀ numbers₀ start
+  unfolding readOf
   begins h =
       let e : from file (length file) start ≡ readOf file = simp (le-ltb 49152 (length file) h) in
       record {

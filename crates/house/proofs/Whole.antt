@@ -8,11 +8,10 @@ use borrow.Author.Tests.{ltb-false}
 use lib.Dec.{ltb, eqb}
 use lib.ListN.{length, length-append}
 use Rattle.house.specs.declared.State.{State}
-use Rattle.house.specs.declared.House.{House}
 use Rattle.house.specs.declared.Field.{Field}
 use Rattle.house.specs.declared.Field.the-variants.{Bad, Size, Word, Question}
 use Rattle.house.specs.Fields.{valueAt, bytesOf, fieldAt}
-use Rattle.house.specs.File.{Gathered, ended, refused, only, more, start, sized, worded, questioned, threeOf, onward, from, readOf}
+use Rattle.house.specs.File.{Gathered, ended, only, start, sized, worded, questioned, onward, from, readOf}
 use Rattle.house.proofs.Fields.{cond-all, Sound, sound-as}
 use Rattle.house.proofs.Steps.{Steady, steady-start, steady-sized, steady-worded, steady-questioned, value-length}
 
@@ -74,6 +73,7 @@ pub record Whole (g : Gathered) : Type 0 where
   pub numbers-count : 3 * g .house .asked ≡ length (g .numbers)
 
 pub whole : (file : List ℕ) → readOf file .house .code ≡ 0 → Whole (readOf file)
+unfolding readOf
 whole file =
     cond-all (λ g. g .house .code ≡ 0 → Whole g) (ltb 49152 (length file)) _ _ (λ t z. absurd (omega arith)) (λ t z.
     let r = from-counts file (length file) start steady-start z in

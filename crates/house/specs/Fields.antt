@@ -42,7 +42,8 @@ cutShort file at = ltb (length file) (at + 3 + lengthAt file at)
 abbrev pub unknownTag : ℕ → Bool
 unknownTag tag = cond (eqb tag 0) true (ltb 3 tag)
 
--- "33 out of place": tag 1 "comes once, first", so nothing comes before it; "tag 2 never follows tag 3"
+-- "33 out of place": tag 1 "comes once, first", so nothing comes before it; "tag 2 never follows tag 3".
+-- The stage is 0 before the first field, 1 where the word may go on, and 2 once a question has come
 abbrev pub outOfPlace : ℕ → ℕ → Bool
 outOfPlace tag stage = byTag tag (not (eqb stage 0)) (not (eqb stage 1)) (eqb stage 0)
 

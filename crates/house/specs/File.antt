@@ -66,7 +66,7 @@ from file zero s = only (ended s)
 from file (suc turns) s = cond (ltb (s .at) (length file)) (onward file s (from file turns) (fieldAt file s)) (only (ended s))
 
 -- "Whole input over 49,152 bytes: 35. Then the first faulty field decides"
-abbrev pub readOf : List ℕ → Gathered
+unfoldable pub readOf : List ℕ → Gathered
 readOf file = cond (ltb 49152 (length file)) (only (refused 35)) (from file (length file) start)
 
 -- the promise of reading: what is given back, and what was gathered over both lent slices from the front

@@ -1,3 +1,4 @@
+-- `text::put_line` meets its contract: three numbers, one after the other. Assumes nothing.
 use native.Mathlib.Omega.{arith}
 use Rattle.text.proofs.Numbers.{number-few}
 use Rattle.text.proofs.Put.{put-append}

@@ -1,3 +1,4 @@
+-- `text::put_number` meets its contract: the digits, and the byte after them. Assumes nothing.
 use native.Mathlib.Omega.{arith}
 use Rattle.text.proofs.Numbers.{digits-few}
 use Rattle.text.proofs.Put.{put-append}
