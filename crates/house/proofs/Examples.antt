@@ -38,10 +38,20 @@ unknown : readOf (9 ∷ 0 ∷ 0 ∷ []) .house .code ≡ 32
 unfolding readOf
 unknown = refl
 
+-- tag 1 "comes once, first": out of place before its length is looked at
+again : readOf (twelve ++ (1 ∷ 0 ∷ 0 ∷ [])) .house .code ≡ 33
+unfolding readOf
+again = refl
+
 -- "Tag 2 never follows tag 3"
 late : readOf (twelve ++ (first ++ bytes)) .house .code ≡ 33
 unfolding readOf
 late = refl
+
+-- "Tag 2 (length 1 or more)"
+blank : readOf (twelve ++ (2 ∷ 0 ∷ 0 ∷ [])) .house .code ≡ 34
+unfolding readOf
+blank = refl
 
 -- "more than ceil(m/8) word bytes", and fewer
 much : readOf (twelve ++ (bytes ++ bytes)) .house .code ≡ 35
