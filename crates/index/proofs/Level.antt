@@ -1,18 +1,18 @@
 -- Where an entry stands in the index, and the stretch that it sums up. Assumes nothing.
-use mathlib.Core.Path.{_≡_, refl, sym, ap, ap₂, subst, _∙_}
-use mathlib.Core.Bool.{Bool, true, false, cond, not}
-use mathlib.Core.List.{List, [], _∷_, _++_}
+use mathlib.Core.Path.{_≡_, refl, sym, ap, subst, _∙_}
+use mathlib.Core.Bool.{Bool, true, false, not}
+use mathlib.Core.List.{List, _++_}
 use Prim.Native.Nat.{ℕ, zero, suc, _+_, _-_, _*_, _/_, _%_, _^_, _≤_, _<_}
 use native.Mathlib.Omega.{arith}
-use native.Mathlib.Nat.{two-pow-succ, pow-zero, one-le-pow, mul-le-mul-right, mul-le-mul-left}
+use native.Mathlib.Nat.{two-pow-succ, one-le-pow, mul-le-mul-right, mul-le-mul-left}
 use lib.Pow.{pow-add}
-use lib.Dec.{T, eqb, eqb→eq, eqb-refl, leb, le→leb, leb→le, nleb→lt}
-use lib.ListN.{length, take, drop, length-take, length-drop}
-use lib.Seq.{take-add, drop-drop, take-take}
+use lib.Dec.{T, eqb, eqb→eq, leb, le→leb, leb→le, nleb→lt}
+use lib.ListN.{take, drop}
+use lib.Seq.{take-add, drop-drop}
 use Rattle.summary.specs.declared.Summary.{Summary}
 use Rattle.word.proofs.Signed.{T-true, true-T, not-true}
 use Rattle.summary.specs.Stretch.{summaryOf}
-use Rattle.summary.specs.Join.{joinOf, emptyOf}
+use Rattle.summary.specs.Join.{joinOf}
 use Rattle.summary.proofs.Append.{summary-append}
 use Rattle.index.specs.Shape.{block, entryBy, entry}
 use Rattle.index.specs.Shape.{even}
@@ -66,7 +66,7 @@ halves g a w =
     rw (e, d, take-add, drop-drop)
 
 -- "Entry L+b is block b's summary; entry k below L joins 2k and 2k+1": so an entry sums up a stretch of 2 ^ g blocks
-leaf : (n l k : ℕ) (w : List Bool) → l ≤ k → entryBy n w l k ≡ summaryOf (block w (k - l))
+pub leaf : (n l k : ℕ) (w : List Bool) → l ≤ k → entryBy n w l k ≡ summaryOf (block w (k - l))
 unfolding entryBy
 leaf zero l k w o = refl
 leaf (suc n) l k w o = rw (T-true (leb l k) (le→leb l k o))
@@ -79,10 +79,10 @@ pub below-leaves : {h f g k : ℕ} → Level h f (suc g) k → k < 2 ^ h
 below-leaves {h} {f} {g} {k} l = omega (arith, level-high l, twice (suc k) g, mul-le-mul-left (suc k) (one-le-pow g 2 (omega arith)))
 
 -- what entry k sums up
-abbrev Sums : List Bool → ℕ → ℕ → Summary → Type 0
+abbrev pub Sums : List Bool → ℕ → ℕ → Summary → Type 0
 Sums w g a s = s ≡ summaryOf (take (256 * 2 ^ g) (drop (256 * a) w))
 
-both : (w : List Bool) (g a : ℕ) (x y : Summary) → Sums w g a x → Sums w g (a + 2 ^ g) y → Sums w (suc g) a (joinOf x y)
+pub both : (w : List Bool) (g a : ℕ) (x y : Summary) → Sums w g a x → Sums w g (a + 2 ^ g) y → Sums w (suc g) a (joinOf x y)
 both w g a x y p q = rw (p, q, halves g a w, summary-append)
 
 at-leaf : (n h k a : ℕ) (w : List Bool) → 2 ^ h + a ≡ k * 2 ^ 0 → Sums w 0 a (entryBy n w (2 ^ h) k)

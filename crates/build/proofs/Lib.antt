@@ -1,0 +1,3 @@
+pub mod Filled
+pub mod Refusal
+pub mod Settled
