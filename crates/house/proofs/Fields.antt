@@ -8,10 +8,11 @@ use native.Mathlib.Omega.{arith}
 use borrow.Author.Tests.{lt-ltb, le-ltb, ltb-true, ltb-false, eqb-true, ne-eqb, not-false}
 use lib.Dec.{ltb, eqb}
 use lib.ListN.{length}
+use Rattle.word.specs.Bits.{bytesOf}
 use Rattle.house.specs.declared.State.{State}
 use Rattle.house.specs.declared.Field.{Field}
 use Rattle.house.specs.declared.Field.the-variants.{Bad, Size, Word, Question}
-use Rattle.house.specs.Fields.{fourAt, tagAt, lengthAt, bytesOf, byTag, cutShort, unknownTag, outOfPlace, wrongLength, sizeField, wordField, questionField, lastTest, fieldAt}
+use Rattle.house.specs.Fields.{fourAt, tagAt, lengthAt, byTag, cutShort, unknownTag, outOfPlace, wrongLength, sizeField, wordField, questionField, lastTest, fieldAt}
 
 -- ---- what a tag decides
 

@@ -6,9 +6,10 @@ use mathlib.Core.List.{List}
 use native.Mathlib.Omega.{arith}
 use lib.ListN.{length, drop, length-drop}
 use lib.Seq.{length-take-le}
+use Rattle.word.specs.Bits.{bytesOf}
 use Rattle.house.specs.declared.State.{State}
 use Rattle.house.specs.declared.Field.the-variants.{Size, Word, Question}
-use Rattle.house.specs.Fields.{valueAt, bytesOf}
+use Rattle.house.specs.Fields.{valueAt}
 use Rattle.house.specs.File.{start, sized, worded, questioned}
 use Rattle.house.proofs.Fields.{Sound}
 

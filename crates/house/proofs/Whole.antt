@@ -7,10 +7,11 @@ use native.Mathlib.Omega.{arith}
 use borrow.Author.Tests.{ltb-false}
 use lib.Dec.{ltb, eqb}
 use lib.ListN.{length, length-append}
+use Rattle.word.specs.Bits.{bytesOf}
 use Rattle.house.specs.declared.State.{State}
 use Rattle.house.specs.declared.Field.{Field}
 use Rattle.house.specs.declared.Field.the-variants.{Bad, Size, Word, Question}
-use Rattle.house.specs.Fields.{valueAt, bytesOf, fieldAt}
+use Rattle.house.specs.Fields.{valueAt, fieldAt}
 use Rattle.house.specs.File.{Gathered, ended, only, start, sized, worded, questioned, onward, from, readOf}
 use Rattle.house.proofs.Fields.{cond-all, Sound, sound-as}
 use Rattle.house.proofs.Steps.{Steady, steady-start, steady-sized, steady-worded, steady-questioned, value-length}

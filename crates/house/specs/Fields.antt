@@ -2,9 +2,10 @@
 -- A field is looked at where it stands in the file, after what the fields before it have told (`State`). Assumes nothing.
 use mathlib.Core.Bool.{Bool, true, cond, not}
 use mathlib.Core.List.{List}
-use Prim.Native.Nat.{ℕ, _+_, _*_, _/_}
+use Prim.Native.Nat.{ℕ, _+_, _*_}
 use lib.Dec.{ltb, eqb}
 use lib.ListN.{length, take, drop, getD}
+use Rattle.word.specs.Bits.{bytesOf}
 use Rattle.house.specs.declared.State.{State}
 use Rattle.house.specs.declared.Field.{Field}
 use Rattle.house.specs.declared.Field.the-variants.{Bad, Size, Word, Question}
@@ -25,10 +26,6 @@ lengthAt file at = twoAt file (at + 1)
 
 abbrev pub valueAt : List ℕ → ℕ → ℕ → List ℕ
 valueAt file at len = take len (drop (at + 3) file)
-
--- "ceil(m/8)"
-abbrev pub bytesOf : ℕ → ℕ
-bytesOf m = (m + 7) / 8
 
 -- what is said of a field of tag 1, of tag 2 and of tag 3
 abbrev pub byTag : {A : Type 0} → ℕ → A → A → A → A

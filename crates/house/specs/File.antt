@@ -7,11 +7,12 @@ use Prim.Native.Nat.{ℕ, zero, suc, _+_}
 use lib.Dec.{ltb, eqb}
 use lib.ListN.{length}
 use lib.Seq.{sets}
+use Rattle.word.specs.Bits.{bytesOf}
 use Rattle.house.specs.declared.State.{State}
 use Rattle.house.specs.declared.House.{House}
 use Rattle.house.specs.declared.Field.{Field}
 use Rattle.house.specs.declared.Field.the-variants.{Bad, Size, Word, Question}
-use Rattle.house.specs.Fields.{fourAt, valueAt, bytesOf, fieldAt}
+use Rattle.house.specs.Fields.{fourAt, valueAt, fieldAt}
 
 -- before the first field
 abbrev pub start : State

@@ -4,7 +4,7 @@ ghost use mathlib.Core.Path.{_≡_};
 ghost use Prim.Native.Nat.{_+_, _*_, _<_, _≤_};
 ghost use lib.ListN.{length};
 ghost use lib.Seq.{sets};
-ghost use Rattle.house.specs.Fields.{twoAt, fourAt, valueAt, bytesOf, cutShort, unknownTag, outOfPlace, wrongLength, sizeField, wordField, questionField, fieldAt};
+ghost use Rattle.house.specs.Fields.{twoAt, fourAt, valueAt, cutShort, unknownTag, outOfPlace, wrongLength, sizeField, wordField, questionField, fieldAt};
 ghost use Rattle.house.specs.File.{threeOf, Read, refused, ended, start as Spec·start, sized as Spec·sized, worded as Spec·worded, questioned as Spec·questioned};
 
 // What the fields before the place `at` have told. The stage is 0 before the first field, 1 where the
@@ -107,13 +107,6 @@ fn four_at(file: &[u8], i: usize) -> u32
     two_at(file, i) * 65536 + two_at(file, i + 2)
 }
 
-fn bytes_of(m: u32) -> usize
-    requires { ⌜ m ≤ 65536 ⌝ }
-    ensures { λ r. ⌜ r ≡ bytesOf m ⌝ }
-{
-    ((m + 7) / 8) as usize
-}
-
 // "A field's bytes are handed on as that part of the input, uncopied."
 fn value(file: &[u8], at: usize, len: usize) -> &[u8]
     requires { ⌜ at + 3 + len ≤ length (now file) ⌝ }
@@ -173,10 +166,10 @@ fn size_field(m: u32) -> Field
 }
 
 fn word_field(s: State, len: usize) -> Field
-    requires { ⌜ (s .m ≤ 65536) × ((s .bytes ≤ 8192) × (len < 65536)) ⌝ }
+    requires { ⌜ (s .bytes ≤ 8192) × (len < 65536) ⌝ }
     ensures { λ r. ⌜ r ≡ wordField s len ⌝ }
 {
-    if bytes_of(s.m) < s.bytes + len {
+    if judge::bytes_of(s.m) < s.bytes + len {
         return Field::Bad(35);
     }
     Field::Word(len)
@@ -193,7 +186,7 @@ fn question_field(s: State) -> Field
 
 // "Then the first faulty field decides, in this order: 31 .. 32 .. 33 .. 34 .. 35"
 fn field_at(file: &[u8], s: State) -> Field
-    requires { ⌜ (s .at < length (now file)) × ((s .m ≤ 65536) × (s .bytes ≤ 8192)) ⌝ }
+    requires { ⌜ (s .at < length (now file)) × (s .bytes ≤ 8192) ⌝ }
     ensures { λ r. ⌜ r ≡ fieldAt (now (file .entry)) s ⌝ }
 {
     let at = s.at;
@@ -240,13 +233,12 @@ fn refusing(code: u32) -> House
 }
 
 fn ending(s: State) -> House
-    requires { ⌜ s .m ≤ 65536 ⌝ }
     ensures { λ r. ⌜ r ≡ ended s ⌝ }
 {
     if s.stage == 0 {
         return refusing(31);
     }
-    if s.bytes < bytes_of(s.m) {
+    if s.bytes < judge::bytes_of(s.m) {
         return refusing(2);
     }
     House {
