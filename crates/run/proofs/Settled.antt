@@ -4,19 +4,21 @@ use mathlib.Core.Bool.{Bool, true, false, cond}
 use mathlib.Core.List.{List}
 use Prim.Native.Nat.{ℕ, zero, suc, _≤_, _<_}
 use native.Mathlib.Omega.{arith}
-use borrow.Author.Tests.{lt-ltb, le-ltb, eqb-true}
-use lib.Dec.{eqb}
+use borrow.Author.Tests.{lt-ltb, le-ltb, ltb-false, eqb-true}
+use lib.Dec.{eqb, ltb}
 use lib.ListN.{length}
+use lib.Seq.{sets, length-sets}
 use Rattle.word.specs.Bits.{word}
 use Rattle.word.specs.Parse.{isBalanced}
 use Rattle.judge.specs.declared.Outcome.{Outcome}
+use Rattle.judge.specs.Judge.{outcomeOf}
 use Rattle.batch.specs.Batch.{answersOf}
 use Rattle.batch.proofs.Answers.{answers-long}
 use Rattle.house.specs.File.{readOf}
 use Rattle.house.proofs.Whole.{whole}
 use Rattle.text.specs.Text.{Put, lines, refusal}
 use Rattle.text.proofs.Lines.{lines-few, refusal-few}
-use Rattle.run.specs.Output.{answered, output, Ran}
+use Rattle.run.specs.Output.{answered, refused, output, Ran}
 
 -- no second outcome fits
 pub settled : (file held : List ℕ) (r r′ : Outcome) (left left′ : List ℕ) → Ran file held r left → Ran file held r′ left′ → (r ≡ r′) × (left ≡ left′)
@@ -47,3 +49,17 @@ output-few file =
         (λ b. omega (arith, lines-few (answersOf (g .bytes) (g .house .m) (g .numbers)), answers-long (g .bytes) (g .house .m) (g .numbers) (omega (arith, w .numbers-count)), w .numbers-count, w .few))
         (λ b. omega (arith, refusal-few 6)))
     (λ z. omega (arith, refusal-few (g .house .code)))
+
+-- the text lies within what was lent
+pub ran-inside : (file held : List ℕ) (r : Outcome) (left : List ℕ) → Ran file held r left → r .value ≤ length left
+ran-inside file held r left p = go (ltb (length held) 33792) refl
+  where
+    value-is : r .value ≡ outcomeOf (refused (length held)) (length (output file)) .value
+    value-is = ap (λ (o : Outcome). o .value) (p .outcome-is)
+
+    go : (t : Bool) → ltb (length held) 33792 ≡ t → r .value ≤ length left
+    go true e = let z : r .value ≡ 0 = rw e at value-is in omega arith
+    go false e =
+        let z : r .value ≡ length (output file) = rw e at value-is in
+        let l : left ≡ sets held 0 (output file) = rw e at (p .output-is) in
+        omega (arith, output-few file, ltb-false (length held) 33792 e, ap length l, length-sets held 0 (output file))
