@@ -100,16 +100,21 @@ fn last_line(text: &[u8]) -> &[u8] {
     text
 }
 
+// Of a long text, how many bytes it has and its last line.
+fn show_last(what: &[u8], file: &[u8]) {
+    let mut output = [0u8; 33792];
+    let ran = run::run(file, &mut output);
+    let k = ran.value;
+    io::write_all(STDOUT_FILENO, what);
+    io::print_decimal(STDOUT_FILENO, k as u64);
+    io::write_all(STDOUT_FILENO, b" bytes\n");
+    io::write_all(STDOUT_FILENO, last_line(&output[..k]));
+}
+
 fn largest() {
     let mut file = [0u8; 49153];
     fill_largest(&mut file);
-    let mut output = [0u8; 33792];
-    let ran = run::run(&file[..23562], &mut output);
-    let k = ran.value;
-    io::write_all(STDOUT_FILENO, b"65,536 bits and 1,024 questions: length, last line\n");
-    io::print_decimal(STDOUT_FILENO, k as u64);
-    io::write_all(STDOUT_FILENO, b"\n");
-    io::write_all(STDOUT_FILENO, last_line(&output[..k]));
+    show_last(b"65,536 bits and 1,024 questions\n", &file[..23562]);
     show(b"a 1,025th question\n", &file[..23577]);
     show(b"49,153 bytes\n", &file);
 }
