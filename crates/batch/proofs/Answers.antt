@@ -6,7 +6,6 @@ use mathlib.Core.Bool.{true}
 use Prim.Native.Nat.{ℕ, zero, suc, _+_, _*_, _%_, _≤_}
 use native.Mathlib.Omega.{arith}
 use lib.ListN.{length, take, drop, getD}
-use lib.Seq.{take-at}
 use Rattle.word.specs.Bits.{word}
 use Rattle.word.specs.Parse.{isBalanced}
 use Rattle.word.proofs.Bits.{length-bits}

@@ -6,7 +6,7 @@ use Prim.Native.Nat.{ℕ, zero, suc, _+_, _*_, _/_, _%_, _≤_}
 use native.Mathlib.Omega.{arith}
 use lib.IntN.{ℤ}
 use lib.ListN.{length, take, drop, getD, length-drop}
-use lib.Seq.{sets, sets-eq, length-sets, take-append-le, drop-append-le}
+use lib.Seq.{sets, sets-eq, take-append-le, drop-append-le}
 use Rattle.judge.specs.declared.Outcome.{Outcome}
 use Rattle.build.specs.Build.{builtIndex}
 use Rattle.build.specs.Build.{refusal as building}

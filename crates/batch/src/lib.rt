@@ -93,7 +93,14 @@ pub fn batch(bytes: &[u8], m: u32, index: &[i32], questions: &[u32], answers: &m
     if code != 0 {
         return Outcome { code, value: 0 };
     }
-    answer_all(bytes, m as usize, index, index::leaves(m), questions, answers);
+    answer_all(
+        bytes,
+        m as usize,
+        index,
+        index::leaves(m),
+        questions,
+        answers,
+    );
     Outcome {
         code: 0,
         value: questions.len() / 3,

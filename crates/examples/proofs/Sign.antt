@@ -7,7 +7,7 @@ use lib.IntN.{ℤ, pos, _-ℤ_, natAbs}
 use lib.Signed.{ltZ, nonNeg}
 use mir.Syntax.{w32, w64}
 use mir.Val.{Fits, SFits}
-use Rattle.word.proofs.Signed.{zarith, abs-law, mag-law, -law, parts}
+use Rattle.word.proofs.Signed.{zarith, abs-law, -law, parts}
 use Rattle.walk.proofs.Signed64.{less-fits, fits-abs}
 
 module _ (x : ℤ) (f : SFits w32 x) where

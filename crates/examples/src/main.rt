@@ -83,9 +83,75 @@ fn w() {
     outcome(b"build: ", build::build(&bytes, 12, &mut index));
     numbers(b"index:", &index);
     let questions = [
-        1u32, 4, 0, 2, 6, 0, 3, 3, 0, 3, 6, 0, 4, 3, 0, 6, 10, 0, 7, 6, 2, 7, 6, 3, 8, 3, 0, 9, 0,
-        0, 10, 1, 0, 11, 1, 0, 11, 3, 0, 11, 0, 0, 12, 3, 6, 12, 0, 10, 13, 2, 8, 13, 5, 7, 13, 0,
-        12, 14, 3, 6, 14, 6, 3, 1, 2, 0, 1, 12, 0,
+        1u32,
+        4,
+        0,
+        2,
+        6,
+        0,
+        3,
+        3,
+        0,
+        3,
+        6,
+        0,
+        4,
+        3,
+        0,
+        6,
+        10,
+        0,
+        7,
+        6,
+        2,
+        7,
+        6,
+        3,
+        8,
+        3,
+        0,
+        9,
+        0,
+        0,
+        10,
+        1,
+        0,
+        11,
+        1,
+        0,
+        11,
+        3,
+        0,
+        11,
+        0,
+        0,
+        12,
+        3,
+        6,
+        12,
+        0,
+        10,
+        13,
+        2,
+        8,
+        13,
+        5,
+        7,
+        13,
+        0,
+        12,
+        14,
+        3,
+        6,
+        14,
+        6,
+        3,
+        1,
+        2,
+        0,
+        1,
+        12,
+        0,
     ];
     ask(&bytes, 12, &index, &questions);
 }
@@ -115,10 +181,22 @@ fn empty() {
 fn limits() {
     let bytes = [0x55u8; 33];
     text(b"limits\n");
-    outcome(b"256 bits, 8 numbers: ", build::build(&bytes, 256, &mut [0; 8]));
-    outcome(b"256 bits, 7 numbers: ", build::build(&bytes, 256, &mut [0; 7]));
-    outcome(b"258 bits, 16 numbers: ", build::build(&bytes, 258, &mut [0; 16]));
-    outcome(b"258 bits, 15 numbers: ", build::build(&bytes, 258, &mut [0; 15]));
+    outcome(
+        b"256 bits, 8 numbers: ",
+        build::build(&bytes, 256, &mut [0; 8]),
+    );
+    outcome(
+        b"256 bits, 7 numbers: ",
+        build::build(&bytes, 256, &mut [0; 7]),
+    );
+    outcome(
+        b"258 bits, 16 numbers: ",
+        build::build(&bytes, 258, &mut [0; 16]),
+    );
+    outcome(
+        b"258 bits, 15 numbers: ",
+        build::build(&bytes, 258, &mut [0; 15]),
+    );
     outcome(b"2097152 bits, no bytes: ", judge::judge(b"", 2097152));
     outcome(b"2097153 bits, no bytes: ", judge::judge(b"", 2097153));
 }

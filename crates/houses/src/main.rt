@@ -29,38 +29,156 @@ fn out_of_place() {
     show(b"word bytes first\n", &[2, 0, 1, 0]);
     show(b"m twice\n", &[1, 0, 4, 0, 0, 0, 0, 1, 0, 0]);
     let late = [
-        1u8, 0, 4, 0, 0, 0, 2, 3, 0, 12, 0, 0, 0, 1, 0, 0, 0, 0, 0, 0, 0, 0, 2, 0, 1, 1,
+        1u8,
+        0,
+        4,
+        0,
+        0,
+        0,
+        2,
+        3,
+        0,
+        12,
+        0,
+        0,
+        0,
+        1,
+        0,
+        0,
+        0,
+        0,
+        0,
+        0,
+        0,
+        0,
+        2,
+        0,
+        1,
+        1,
     ];
     show(b"word bytes after a question\n", &late);
 }
 
 fn wrong_length() {
     show(b"m in three bytes\n", &[1, 0, 3, 0, 0, 0]);
-    show(b"no word bytes in their field\n", &[1, 0, 4, 0, 0, 0, 0, 2, 0, 0]);
-    show(b"a question of one byte\n", &[1, 0, 4, 0, 0, 0, 0, 3, 0, 1, 0]);
+    show(
+        b"no word bytes in their field\n",
+        &[1, 0, 4, 0, 0, 0, 0, 2, 0, 0],
+    );
+    show(
+        b"a question of one byte\n",
+        &[1, 0, 4, 0, 0, 0, 0, 3, 0, 1, 0],
+    );
 }
 
 fn too_much() {
     show(b"m is 65,537\n", &[1, 0, 4, 0, 1, 0, 1]);
-    show(b"two word bytes for eight bits\n", &[1, 0, 4, 0, 0, 0, 8, 2, 0, 2, 85, 85]);
+    show(
+        b"two word bytes for eight bits\n",
+        &[1, 0, 4, 0, 0, 0, 8, 2, 0, 2, 85, 85],
+    );
 }
 
 fn word_refused() {
-    show(b"one word byte for twelve bits\n", &[1, 0, 4, 0, 0, 0, 12, 2, 0, 1, 85]);
+    show(
+        b"one word byte for twelve bits\n",
+        &[1, 0, 4, 0, 0, 0, 12, 2, 0, 1, 85],
+    );
     show(b"not balanced\n", &[1, 0, 4, 0, 0, 0, 2, 2, 0, 1, 2]);
-    show(b"an odd number of bits\n", &[1, 0, 4, 0, 0, 0, 1, 2, 0, 1, 1]);
+    show(
+        b"an odd number of bits\n",
+        &[1, 0, 4, 0, 0, 0, 1, 2, 0, 1, 1],
+    );
 }
 
 fn answered() {
     show(b"no questions\n", &[1, 0, 4, 0, 0, 0, 2, 2, 0, 1, 1]);
     let empty = [
-        1u8, 0, 4, 0, 0, 0, 0, 3, 0, 12, 0, 0, 0, 13, 0, 0, 0, 0, 0, 0, 0, 0, 3, 0, 12, 0, 0, 0, 3,
-        0, 0, 0, 0, 0, 0, 0, 0,
+        1u8,
+        0,
+        4,
+        0,
+        0,
+        0,
+        0,
+        3,
+        0,
+        12,
+        0,
+        0,
+        0,
+        13,
+        0,
+        0,
+        0,
+        0,
+        0,
+        0,
+        0,
+        0,
+        3,
+        0,
+        12,
+        0,
+        0,
+        0,
+        3,
+        0,
+        0,
+        0,
+        0,
+        0,
+        0,
+        0,
+        0,
     ];
     show(b"m is 0: 13 of 0, 0 and 3 of 0\n", &empty);
     let stretches = [
-        1u8, 0, 4, 0, 0, 0, 12, 2, 0, 1, 0x5B, 2, 0, 1, 0xF4, 3, 0, 12, 0, 0, 0, 12, 0, 0, 0, 4, 0,
-        0, 0, 6, 3, 0, 12, 0, 0, 0, 15, 0, 0, 0, 0, 0, 0, 0, 0,
+        1u8,
+        0,
+        4,
+        0,
+        0,
+        0,
+        12,
+        2,
+        0,
+        1,
+        0x5B,
+        2,
+        0,
+        1,
+        0xF4,
+        3,
+        0,
+        12,
+        0,
+        0,
+        0,
+        12,
+        0,
+        0,
+        0,
+        4,
+        0,
+        0,
+        0,
+        6,
+        3,
+        0,
+        12,
+        0,
+        0,
+        0,
+        15,
+        0,
+        0,
+        0,
+        0,
+        0,
+        0,
+        0,
+        0,
     ];
     show(b"two stretches, bits past m, an unknown kind\n", &stretches);
 }
@@ -72,7 +190,11 @@ fn put_question(file: &mut [u8], at: usize, kind: u8, a: u32)
 {
     let high = (a / 256) as u8;
     let low = (a % 256) as u8;
-    fill::copy(&[3, 0, 12, 0, 0, 0, kind, 0, 0, high, low, 0, 0, 0, 0], file, at);
+    fill::copy(
+        &[3, 0, 12, 0, 0, 0, kind, 0, 0, high, low, 0, 0, 0, 0],
+        file,
+        at,
+    );
 }
 
 // 32,768 openings and as many closings; then 1,025 questions of all kinds.
@@ -84,7 +206,7 @@ fn fill_largest(file: &mut [u8])
     fill::copy(&[255u8; 4096], file, 10);
     let mut i = 0u32;
     while i < 1025 {
-        put_question(file, 8202 + 15 * i as usize, (i % 14 + 1) as u8, 61 * i);
+        put_question(file, 8202 + 15 * i as usize, (i % 14 + 1) as u8, 31 * i);
         i += 1;
     }
 }

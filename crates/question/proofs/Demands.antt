@@ -126,9 +126,9 @@ module _ (w : List Bool) (balanced : isBalanced w ≡ true) where
       → (asked w 14 a b ≡ gives 1) ↔ ((i ≤ j) × (j < i + n))
   chain-run a b i j n o p ei ej en =
       let r = holds-run f a b i j n (node-of a o) (node-of b p)
-              (found-some (number f a) i (sym (number-of a 0 o) ∙ ei))
-              (found-some (number f b) j (sym (number-of b 0 p) ∙ ej))
-              (found-some (branch f a) n (sym (branch-of a 0 o) ∙ en)) in (
+      (found-some (number f a) i (sym (number-of a 0 o) ∙ ei))
+      (found-some (number f b) j (sym (number-of b 0 p) ∙ ej))
+      (found-some (branch f a) n (sym (branch-of a 0 o) ∙ en)) in (
         (λ e. r .0 (flag (holds f a b) .0 (sym (holds-of a b o p) ∙ e))),
         λ h. holds-of a b o p ∙ flag (holds f a b) .1 (r .1 h),
       )

@@ -65,7 +65,7 @@ module _ (w : List Bool) where
   decode-sound kind a b =
       let one : (q : Question) → (IsNode w a → Sound w q) → Sound w (unless (node w a []) q) = by-node a [] in
       let two : (q : Question) → (IsNode w a → IsNode w b → Sound w q) → Sound w (unless (node w a (node w b [])) q) =
-          λ q k. by-node a (node w b []) q (λ n. by-node b [] q (k n)) in
+      λ q k. by-node a (node w b []) q (λ n. by-node b [] q (k n)) in
       either (eqb kind 1) _ _ (one (Depth a) (λ n. n))
       (either (eqb kind 2) _ _ (one (Number a) (λ n. n))
       (either (eqb kind 3) _ _ tt

@@ -2,13 +2,13 @@
 use mathlib.Core.Path.{_≡_, refl, sym, ap, _∙_}
 use mathlib.Core.Bool.{Bool, true, false, cond, not}
 use mathlib.Core.List.{List}
-use Prim.Native.Nat.{ℕ, _*_, _^_, _%_, _≤_}
+use Prim.Native.Nat.{ℕ, _^_, _≤_}
 use native.Mathlib.Nat.{pow-le-pow-right}
 use native.Mathlib.Omega.{arith}
 use lib.IntN.{ℤ}
 use lib.ListN.{length, take, drop}
 use lib.Seq.{take-at}
-use Rattle.word.specs.Bits.{word, bytesOf}
+use Rattle.word.specs.Bits.{word}
 use Rattle.word.specs.Parse.{isBalanced}
 use Rattle.judge.specs.declared.Outcome.{Outcome}
 use Rattle.judge.proofs.Judged.{code-of}

@@ -2,7 +2,7 @@
 use mathlib.Core.Path.{_≡_, refl, sym, ap, _∙_}
 use mathlib.Core.Bool.{Bool, true, false, cond}
 use mathlib.Core.List.{List}
-use Prim.Native.Nat.{ℕ, zero, suc, _≤_, _<_}
+use Prim.Native.Nat.{ℕ, _≤_, _<_}
 use native.Mathlib.Omega.{arith}
 use borrow.Author.Tests.{lt-ltb, le-ltb, ltb-false, eqb-true}
 use lib.Dec.{eqb, ltb}
@@ -16,9 +16,9 @@ use Rattle.batch.specs.Batch.{answersOf}
 use Rattle.batch.proofs.Answers.{answers-long}
 use Rattle.house.specs.File.{readOf}
 use Rattle.house.proofs.Whole.{whole}
-use Rattle.text.specs.Text.{Put, lines, refusal}
+use Rattle.text.specs.Text.{Put}
 use Rattle.text.proofs.Lines.{lines-few, refusal-few}
-use Rattle.run.specs.Output.{answered, refused, output, Ran}
+use Rattle.run.specs.Output.{refused, output, Ran}
 
 -- no second outcome fits
 pub settled : (file held : List ℕ) (r r′ : Outcome) (left left′ : List ℕ) → Ran file held r left → Ran file held r′ left′ → (r ≡ r′) × (left ≡ left′)
@@ -44,10 +44,10 @@ output-few file =
     let g = readOf file in
     either (eqb (g .house .code) 0) _ _ 33792
     (λ z.
-        let w = whole file (eqb-true _ _ z) in
-        either (isBalanced (word (g .bytes) (g .house .m))) _ _ 33792
-        (λ b. omega (arith, lines-few (answersOf (g .bytes) (g .house .m) (g .numbers)), answers-long (g .bytes) (g .house .m) (g .numbers) (omega (arith, w .numbers-count)), w .numbers-count, w .few))
-        (λ b. omega (arith, refusal-few 6)))
+    let w = whole file (eqb-true _ _ z) in
+    either (isBalanced (word (g .bytes) (g .house .m))) _ _ 33792
+    (λ b. omega (arith, lines-few (answersOf (g .bytes) (g .house .m) (g .numbers)), answers-long (g .bytes) (g .house .m) (g .numbers) (omega (arith, w .numbers-count)), w .numbers-count, w .few))
+    (λ b. omega (arith, refusal-few 6)))
     (λ z. omega (arith, refusal-few (g .house .code)))
 
 -- the text lies within what was lent

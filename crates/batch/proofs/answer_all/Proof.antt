@@ -6,10 +6,6 @@ use lib.ListN.{length}
 use Rattle.batch.proofs.Turns.{Done, done-none, done-next, done-all}
 use Rattle.batch.proofs.answer_all.Statement.{statement}
 use Rattle.batch.proofs.answer_all.Tie as tie
-use Rattle.batch.proofs.answer_all.Reads as reads
-use Rattle.batch.proofs.answer_all.Lts as lts
-use Rattle.batch.proofs.answer_one.Reads as answer-one-reads
-use Rattle.batch.proofs.put.Reads as put-reads
 
 abbrev Inv-loop : tie.InvT-loop
 Inv-loop bytes m index l questions answers₀ at₀ answers at = Done bytes m questions answers₀ answers at
@@ -17,70 +13,54 @@ Inv-loop bytes m index l questions answers₀ at₀ answers at = Done bytes m qu
 abbrev μ-loop : tie.MeasureT-loop
 μ-loop bytes m index l questions answers₀ at₀ answers at = length questions - at
 
--- src/lib.rt:46:5
 loop-holds : tie.Need-loop-holds Inv-loop μ-loop
 loop-holds c = done-none _ _ _ _
 
--- src/lib.rt:52:13
 mul-answer-one : tie.Need-mul-answer-one Inv-loop μ-loop
 mul-answer-one c = search needs
 
--- src/lib.rt:52:13
 shared-slice-read-answer-one : tie.Need-shared-slice-read-answer-one Inv-loop μ-loop
 shared-slice-read-answer-one c = search needs
 
--- src/lib.rt:53:23
 add-answer-one : tie.Need-add-answer-one Inv-loop μ-loop
 add-answer-one c = search needs
 
--- src/lib.rt:53:13
 mul-answer-one-2 : tie.Need-mul-answer-one-2 Inv-loop μ-loop
 mul-answer-one-2 c = search needs
 
--- src/lib.rt:53:13
 shared-slice-read-answer-one-2 : tie.Need-shared-slice-read-answer-one-2 Inv-loop μ-loop
 shared-slice-read-answer-one-2 c = search needs
 
--- src/lib.rt:54:23
 add-answer-one-2 : tie.Need-add-answer-one-2 Inv-loop μ-loop
 add-answer-one-2 c = search needs
 
--- src/lib.rt:54:13
 mul-answer-one-3 : tie.Need-mul-answer-one-3 Inv-loop μ-loop
 mul-answer-one-3 c = search needs
 
--- src/lib.rt:54:13
 shared-slice-read-answer-one-3 : tie.Need-shared-slice-read-answer-one-3 Inv-loop μ-loop
 shared-slice-read-answer-one-3 c = search needs
 
--- src/lib.rt:47:13
 answer-one-requires : tie.Need-answer-one-requires Inv-loop μ-loop
 answer-one-requires c κs = c .before .before .before .before .before .before .before .before .pre .ready
 
--- src/lib.rt:56:9
 put-requires : tie.Need-put-requires Inv-loop μ-loop
 put-requires c κs = search needs
 
--- src/lib.rt:57:9
 add-at : tie.Need-add-at Inv-loop μ-loop
 add-at c = search needs
 
--- src/lib.rt:46:5
 loop-less : tie.Need-loop-less Inv-loop μ-loop
 loop-less c = search needs
 
--- src/lib.rt:46:5
 loop-again : tie.Need-loop-again Inv-loop μ-loop
 loop-again c =
     let l = c .before .before .before .before .before .before .before .before .before .loop in
     let s = c .before .before .before .before .before .before .before .before .before .before .before .before .before in
     done-next _ _ _ _ _ _ (l .inv) _ _ (s .pre .threes) (omega arith) (c .before .before .before .before .answer-one .ensures) (c .before .before .put .ensures)
 
--- src/lib.rt:34:1
 same-length : tie.Need-same-length Inv-loop μ-loop
 same-length c = c .before .loop .inv .long
 
--- src/lib.rt:34:1
 returns : tie.Need-returns Inv-loop μ-loop
 returns c = done-all _ _ _ _ _ _ (c .before .loop .inv) (omega arith)
 

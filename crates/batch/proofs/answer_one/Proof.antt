@@ -1,9 +1,6 @@
 use Rattle.batch.proofs.answer_one.Statement.{statement}
 use Rattle.batch.proofs.answer_one.Tie as tie
-use Rattle.batch.proofs.answer_one.Reads as reads
-use Rattle.batch.proofs.answer_one.Lts as lts
 
--- src/lib.rt:13:1
 returns : tie.Need-returns
 returns c = ?
 

@@ -5,33 +5,22 @@ use Rattle.batch.proofs.Settled.{ends-refused, ends-answered}
 use borrow.Author.Needs.{needs}
 use Rattle.batch.proofs.batch.Statement.{statement}
 use Rattle.batch.proofs.batch.Tie as tie
-use Rattle.batch.proofs.batch.Reads as reads
-use Rattle.batch.proofs.batch.Lts as lts
-use Rattle.batch.proofs.answer_all.Reads as answer-all-reads
-use Rattle.batch.proofs.refused.Reads as refused-reads
-use Rattle.index.proofs.leaves.Reads as leaves-reads
 
--- src/lib.rt:92:9
 refused-requires : tie.Need-refused-requires
 refused-requires c κs = search needs
 
--- src/lib.rt:94:9
 returns : tie.Need-returns
 returns c = ends-refused _ _ _ _ _ _ (c .before .refused .ensures) (c .if1 .taken)
 
--- src/lib.rt:96:42
 leaves-requires : tie.Need-leaves-requires
 leaves-requires c κs = accepted _ _ _ _ _ .0 (sym (c .before .refused .ensures) ∙ c .if1 .left) .size
 
--- src/lib.rt:96:5
 answer-all-requires : tie.Need-answer-all-requires
 answer-all-requires c κs = asked-of _ _ _ _ _ _ (accepted _ _ _ _ _ .0 (sym (c .before .before .before .refused .ensures) ∙ c .before .before .if1 .left)) (c .before .leaves .ensures)
 
--- src/lib.rt:89:1
 same-length : tie.Need-same-length
 same-length c = search needs
 
--- src/lib.rt:89:1
 returns-2 : tie.Need-returns-2
 returns-2 c = ends-answered _ _ _ _ _ _ (c .before .before .before .before .before .before .refused .ensures) (c .before .before .before .before .before .if1 .left) _ (c .before .before .answer-all .ensures)
 

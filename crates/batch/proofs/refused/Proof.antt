@@ -6,60 +6,42 @@ use Rattle.batch.proofs.Refusals.{refused-1, refused-2, refused-3, refu
 use borrow.Author.Needs.{needs}
 use Rattle.batch.proofs.refused.Statement.{statement}
 use Rattle.batch.proofs.refused.Tie as tie
-use Rattle.batch.proofs.refused.Reads as reads
-use Rattle.batch.proofs.refused.Lts as lts
-use Rattle.index.proofs.numbers_of.Reads as numbers-of-reads
-use Rattle.judge.proofs.balanced.Reads as balanced-reads
-use Rattle.judge.proofs.bytes_of.Reads as bytes-of-reads
-use Rattle.same.proofs.same.Reads as same-reads
 
--- src/lib.rt:66:9
 returns : tie.Need-returns
 returns c = refused-1 _ _ _ _ _ (c .if1 .taken)
 
--- src/lib.rt:68:22
 bytes-of-requires : tie.Need-bytes-of-requires
 bytes-of-requires c κs = search needs
 
--- src/lib.rt:69:9
 returns-2 : tie.Need-returns-2
 returns-2 c = refused-2 _ _ _ _ _ (c .before .before .if1 .left) (omega arith)
 
--- src/lib.rt:71:22
 numbers-of-requires : tie.Need-numbers-of-requires
 numbers-of-requires c κs = search needs
 
--- src/lib.rt:72:9
 returns-3 : tie.Need-returns-3
 returns-3 c = refused-3 _ _ _ _ _ (c .before .before .before .before .if1 .left) (omega arith) (omega arith)
 
--- src/lib.rt:75:9
 returns-4 : tie.Need-returns-4
 returns-4 c = refused-4 _ _ _ _ _ (c .before .before .before .before .before .if1 .left) (omega arith) (omega arith) (c .if4 .taken)
 
--- src/lib.rt:78:9
 returns-5 : tie.Need-returns-5
 returns-5 c = refused-5 _ _ _ _ _ (c .before .before .before .before .before .before .if1 .left) (omega arith) (omega arith) (c .before .if4 .left) (c .if5 .taken)
 
--- src/lib.rt:80:9
 balanced-requires : tie.Need-balanced-requires
 balanced-requires c κs = search needs
 
--- src/lib.rt:81:9
 returns-6 : tie.Need-returns-6
 returns-6 c =
     sym (judging _ _ _ _ _ (c .before .before .before .before .before .before .before .before .if1 .left) (omega arith) (omega arith) (c .before .before .before .if4 .left) (c .before .before .if5 .left) ∙ rw (sym (c .before .balanced .ensures) ∙ not-true _ (c .if6 .taken)))
 
--- src/lib.rt:83:9
 same-requires : tie.Need-same-requires
 same-requires c κs = search needs
 
--- src/lib.rt:84:9
 returns-7 : tie.Need-returns-7
 returns-7 c =
     sym (judging _ _ _ _ _ (c .before .before .before .before .before .before .before .before .before .before .if1 .left) (omega arith) (omega arith) (c .before .before .before .before .before .if4 .left) (c .before .before .before .before .if5 .left) ∙ rw (sym (c .before .before .before .balanced .ensures) ∙ not-false _ (c .before .before .if6 .left), sym (c .before .same .ensures) ∙ not-true _ (c .if7 .taken)))
 
--- src/lib.rt:62:1
 returns-8 : tie.Need-returns-8
 returns-8 c =
     sym (judging _ _ _ _ _ (c .before .before .before .before .before .before .before .before .before .before .if1 .left) (omega arith) (omega arith) (c .before .before .before .before .before .if4 .left) (c .before .before .before .before .if5 .left) ∙ rw (sym (c .before .before .before .balanced .ensures) ∙ not-false _ (c .before .before .if6 .left), sym (c .before .same .ensures) ∙ not-false _ (c .if7 .left)))

@@ -2,68 +2,49 @@
 use mathlib.Core.Path.{sym}
 use native.Mathlib.Omega.{arith}
 use lib.IntN.{pos}
-use lib.ListN.{length, take, length-replicate}
+use lib.ListN.{length, length-replicate}
 use lib.Seq.{length-take-le}
 use Rattle.run.proofs.Answered.{ends-unbalanced, ends-answered}
 use borrow.Author.Needs.{needs}
 use Rattle.run.proofs.answer.Statement.{statement}
 use Rattle.run.proofs.answer.Tie as tie
-use Rattle.run.proofs.answer.Reads as reads
-use Rattle.run.proofs.answer.Lts as lts
-use Rattle.batch.proofs.batch.Reads as batch-reads
-use Rattle.build.proofs.build.Reads as build-reads
-use Rattle.text.proofs.put_lines.Reads as put-lines-reads
-use Rattle.text.proofs.put_refusal.Reads as put-refusal-reads
 
--- src/lib.rt:16:40
 slice-aggregate-build : tie.Need-slice-aggregate-build
 slice-aggregate-build c = search needs
 
--- src/lib.rt:16:9
 build-requires : tie.Need-build-requires
 build-requires c κs = search needs
 
--- src/lib.rt:19:9
 put-refusal-requires : tie.Need-put-refusal-requires
 put-refusal-requires c κs = search needs
 
--- src/lib.rt:19:9
 same-length : tie.Need-same-length
 same-length c = search needs
 
--- src/lib.rt:19:9
 returns : tie.Need-returns
 returns c = ends-unbalanced _ _ _ _ (c .before .before .before .before .before .before .before .before .before .before .before .pre) _ _ (length-replicate 2048 (pos 0)) _ (c .before .before .before .before .before .before .build .ensures) _ _ (c .before .before .before .before .if1 .taken) (c .before .before .put-refusal .ensures)
 
--- src/lib.rt:22:28
 slice-aggregate-batch : tie.Need-slice-aggregate-batch
 slice-aggregate-batch c = search needs
 
--- src/lib.rt:22:45
 slice-aggregate-batch-2 : tie.Need-slice-aggregate-batch-2
 slice-aggregate-batch-2 c = search needs
 
--- src/lib.rt:22:5
 batch-requires : tie.Need-batch-requires
 batch-requires c κs = search needs
 
--- src/lib.rt:24:21
 array-share-prefix-answers : tie.Need-array-share-prefix-answers
 array-share-prefix-answers c = search needs
 
--- src/lib.rt:24:21
 slice-aggregate-put-lines : tie.Need-slice-aggregate-put-lines
 slice-aggregate-put-lines c = sym (length-take-le _ _ (omega (arith, c .before .before .batch .kept .1 .1 .1 .1 .0)))
 
--- src/lib.rt:24:5
 put-lines-requires : tie.Need-put-lines-requires
 put-lines-requires c κs = let e = length-take-le (length (c .before .before .before .before .before .before .before .before .before .before .before .before .before .args .numbers .now)) (c .before .before .before .batch .last .1 .1 .1 .1 .0) (omega (arith, c .before .before .before .batch .kept .1 .1 .1 .1 .0)) in (omega arith, omega arith)
 
--- src/lib.rt:11:1
 same-length-2 : tie.Need-same-length-2
 same-length-2 c = search needs
 
--- src/lib.rt:11:1
 returns-2 : tie.Need-returns-2
 returns-2 c = ends-answered _ _ _ _ (c .before .before .before .before .before .before .before .before .before .before .before .before .before .before .before .before .pre) _ _ (length-replicate 2048 (pos 0)) _ (c .before .before .before .before .before .before .before .before .before .before .before .build .ensures) _ _ (c .before .before .before .before .before .before .before .before .before .if1 .left) _ (omega arith) _ _ (c .before .before .before .before .before .before .batch .ensures) (c .before .before .put-lines .ensures)
 

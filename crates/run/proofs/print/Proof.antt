@@ -6,57 +6,40 @@ use Rattle.run.proofs.Printed.{ends-refused, few-asked, few-bytes, few-
 use borrow.Author.Needs.{needs}
 use Rattle.run.proofs.print.Statement.{statement}
 use Rattle.run.proofs.print.Tie as tie
-use Rattle.run.proofs.print.Reads as reads
-use Rattle.run.proofs.print.Lts as lts
-use Rattle.house.proofs.read.Reads as read-reads
-use Rattle.run.proofs.answer.Reads as answer-reads
-use Rattle.text.proofs.put_refusal.Reads as put-refusal-reads
 
--- src/lib.rt:34:9
 read-requires : tie.Need-read-requires
 read-requires c κs = search needs
 
--- src/lib.rt:37:9
 put-refusal-requires : tie.Need-put-refusal-requires
 put-refusal-requires c κs = search needs
 
--- src/lib.rt:37:9
 same-length : tie.Need-same-length
 same-length c = search needs
 
--- src/lib.rt:37:9
 returns : tie.Need-returns
 returns c = ends-refused _ _ _ _ (c .before .before .before .before .before .read .ensures) _ _ _ (c .before .before .before .before .if1 .taken) (c .before .before .put-refusal .ensures)
 
--- src/lib.rt:40:13
 mul-k : tie.Need-mul-k
 mul-k c = omega (arith, few-asked _ _ _ _ (c .before .before .read .ensures) (c .before .if1 .left))
 
--- src/lib.rt:41:12
 array-share-prefix-word : tie.Need-array-share-prefix-word
 array-share-prefix-word c = few-bytes _ _ _ _ (c .before .before .read .ensures) (c .before .if1 .left)
 
--- src/lib.rt:41:12
 slice-aggregate-answer : tie.Need-slice-aggregate-answer
 slice-aggregate-answer c = sym (length-take-le _ _ (few-bytes _ _ _ _ (c .before .before .before .read .ensures) (c .before .before .if1 .left)))
 
--- src/lib.rt:41:29
 array-share-prefix-numbers : tie.Need-array-share-prefix-numbers
 array-share-prefix-numbers c = few-numbers _ _ _ _ (c .before .before .before .read .ensures) (c .before .before .if1 .left)
 
--- src/lib.rt:41:29
 slice-aggregate-answer-2 : tie.Need-slice-aggregate-answer-2
 slice-aggregate-answer-2 c = sym (length-take-le _ _ (few-numbers _ _ _ _ (c .before .before .before .before .read .ensures) (c .before .before .before .if1 .left)))
 
--- src/lib.rt:41:5
 answer-requires : tie.Need-answer-requires
 answer-requires c κs = sound _ _ _ _ (c .before .before .before .before .before .read .ensures) (c .before .before .before .before .if1 .left) _ (omega arith)
 
--- src/lib.rt:28:1
 same-length-2 : tie.Need-same-length-2
 same-length-2 c = search needs
 
--- src/lib.rt:28:1
 returns-2 : tie.Need-returns-2
 returns-2 c = ends-printed _ _ _ _ (c .before .before .before .before .before .before .before .before .read .ensures) (c .before .before .before .before .before .before .before .if1 .left) _ _ _ (c .before .before .answer .ensures)
 

@@ -3,23 +3,16 @@ use Rattle.run.proofs.Settled.{ends-short, ends-run}
 use borrow.Author.Needs.{needs}
 use Rattle.run.proofs.run.Statement.{statement}
 use Rattle.run.proofs.run.Tie as tie
-use Rattle.run.proofs.run.Reads as reads
-use Rattle.run.proofs.run.Lts as lts
-use Rattle.run.proofs.print.Reads as print-reads
 
--- src/lib.rt:50:9
 returns : tie.Need-returns
 returns c = ends-short _ _ (c .if1 .taken)
 
--- src/lib.rt:52:9
 print-requires : tie.Need-print-requires
 print-requires c κs = search needs
 
--- src/lib.rt:46:1
 same-length : tie.Need-same-length
 same-length c = search needs
 
--- src/lib.rt:46:1
 returns-2 : tie.Need-returns-2
 returns-2 c = ends-run _ _ _ _ (c .before .before .before .before .if1 .left) (c .before .before .print .ensures)
 
