@@ -20,7 +20,7 @@ use Rattle.walk.specs.Backward.{leafBack, fromStart}
 use Rattle.walk.proofs.Signed64.{wb}
 use Rattle.walk.proofs.Machine.{back64}
 use Rattle.backward.specs.Steps.{scanDown}
-use Rattle.backward.proofs.Final.{final-nil}
+use Rattle.walk.proofs.Final.{final-nil}
 use Rattle.backward.proofs.Scan.{one-more}
 
 scanned-met : (o : Option ℕ) (u : ℤ) (q : ℕ) → scanned o u ≡ Met q → o ≡ some q

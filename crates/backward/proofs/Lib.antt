@@ -1,7 +1,6 @@
-pub mod Climb
-pub mod Descent
+pub mod Climbing
 pub mod Ends
-pub mod Final
 pub mod Room
 pub mod Scan
+pub mod Sinking
 pub mod Whole

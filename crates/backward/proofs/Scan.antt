@@ -1,29 +1,26 @@
 -- The scan down, bit by bit: what one turn of its loop does.
 -- The bits between two boundaries are taken from their end.
-use mathlib.Core.Path.{_≡_, refl, sym, ap, _∙_}
+use mathlib.Core.Path.{_≡_, sym, ap, _∙_}
 use mathlib.Core.Bool.{Bool, true, false, cond}
 use mathlib.Core.List.{List, [], _∷_}
-use mathlib.Core.Option.{Option, none, some}
-use Prim.Native.Nat.{ℕ, suc, _+_, _-_, _*_, _/_, _%_, _≤_, _<_, min}
-use native.Mathlib.Omega.{arith}
+use mathlib.Core.Option.{none, some}
+use Prim.Native.Nat.{ℕ, suc, _+_, _-_, _≤_, _<_, min}
 use lib.ListN.{take, drop, take-append-drop}
 use lib.IntN.{ℤ, pos, _+ℤ_, _-ℤ_, natAbs}
 use lib.Signed.{mag}
 use Rattle.word.specs.Signed.{eqZ}
-use Rattle.word.specs.Bits.{bit, bits, word}
-use Rattle.word.proofs.Bits.{take-bits, drop-bits, part-bits}
-use Rattle.word.proofs.Signed.{zarith, -law, +law, →eqZ, →neqZ, abs-law, parts}
+use Rattle.word.specs.Bits.{bit, bits}
+use Rattle.word.proofs.Bits.{take-bits, drop-bits}
+use Rattle.word.proofs.Signed.{zarith, -law, +law, eqZ-refl, →eqZ, →neqZ, abs-law, parts}
 use Rattle.summary.specs.Stretch.{step, depthOf}
 use Rattle.summary.proofs.Meaning.{step-small, depth-append}
-use Rattle.index.specs.Shape.{block}
-use Rattle.walk.specs.declared.Scan.{Scan}
 use Rattle.walk.specs.declared.Scan.the-variants.{Met, Left}
-use Rattle.walk.specs.Scan.{orElse, final, behind, scanned}
-use Rattle.walk.specs.Backward.{fromStart}
+use Rattle.walk.specs.Scan.{orElse, final}
+use Rattle.walk.proofs.Amounts.{depth-nil, one-there}
+use Rattle.walk.proofs.Final.{final-split, final-cons, final-nil}
 use Rattle.walk.proofs.Signed64.{wb}
 use Rattle.walk.proofs.Machine.{back64}
 use Rattle.backward.specs.Steps.{scanDown}
-use Rattle.backward.proofs.Final.{final-split, final-cons, final-nil, depth-nil, depth-one}
 
 pub scan-end : (bytes : List ℕ) (i n : ℕ) (t : ℤ) → n ≡ 0 → scanDown bytes i n t ≡ Left t
 unfolding scanDown
@@ -37,7 +34,7 @@ module _ (bytes : List ℕ) (i m n : ℕ) (t : ℤ) (e : n ≡ suc m) where
   back = let z : suc m - m ≡ 1 = omega zarith in rw (drop-bits bytes i (suc m) m, z)
 
   depth : depthOf (bits bytes i (suc m)) ≡ depthOf (bits bytes i m) +ℤ step (bit bytes (i + m))
-  depth = ap depthOf (sym (take-append-drop m (bits bytes i (suc m)))) ∙ depth-append (take m (bits bytes i (suc m))) (drop m (bits bytes i (suc m))) ∙ rw (front, back, depth-one)
+  depth = ap depthOf (sym (take-append-drop m (bits bytes i (suc m)))) ∙ depth-append (take m (bits bytes i (suc m))) (drop m (bits bytes i (suc m))) ∙ rw (front, back, one-there (bit bytes (i + m)) [] (step (bit bytes (i + m))) (eqZ-refl (step (bit bytes (i + m)))))
 
   pub one-more : t +ℤ depthOf (bits bytes i (suc m)) ≡ (t +ℤ step (bit bytes (i + m))) +ℤ depthOf (bits bytes i m)
   one-more = omega (zarith, depth, +law t (depthOf (bits bytes i (suc m))), +law t (step (bit bytes (i + m))), +law (t +ℤ step (bit bytes (i + m))) (depthOf (bits bytes i m)), +law (depthOf (bits bytes i m)) (step (bit bytes (i + m))))

@@ -1,8 +1,9 @@
--- The whole backward walk, over the numbers lent: they are the word's own entries, so the walk is the definition's.
+-- The whole backward walk: past its first block, over the numbers lent, and the first block before it.
+-- The numbers lent are the word's own entries, so the walk by them is the definition's.
 use mathlib.Core.Path.{_≡_, refl, sym, ap, _∙_}
-use mathlib.Core.Bool.{Bool, true, false, cond}
+use mathlib.Core.Bool.{Bool, cond}
 use mathlib.Core.List.{List}
-use mathlib.Core.Option.{Option, none, some}
+use mathlib.Core.Option.{none, some}
 use Prim.Native.Nat.{ℕ, zero, suc, _+_, _-_, _*_, _/_, _%_, _^_, _≤_, _<_}
 use native.Mathlib.Omega.{arith}
 use native.Mathlib.Nat.{two-pow-succ, mul-le-mul-right}
@@ -21,7 +22,7 @@ use Rattle.summary.specs.Stretch.{step, depthOf}
 use Rattle.summary.proofs.Bounds.{depth-within}
 use Rattle.index.specs.Shape.{height, entry, even}
 use Rattle.index.specs.Lent.{entryAt}
-use Rattle.index.proofs.Height.{height-reaches, leaves-few}
+use Rattle.index.proofs.Height.{height-reaches}
 use Rattle.index.proofs.Level.{leb-no}
 use Rattle.walk.specs.declared.Walk.{Walk}
 use Rattle.walk.specs.declared.Scan.{Scan}
@@ -34,8 +35,9 @@ use Rattle.walk.specs.Lent.{Lent}
 use Rattle.walk.specs.Backward.{climbBack, descendBack, leafBack, landedBack, fromStart, backward}
 use Rattle.walk.proofs.Signed64.{wb}
 use Rattle.walk.proofs.Machine.{back64}
-use Rattle.backward.specs.Steps.{beyond, scanDown}
-use Rattle.backward.specs.Held.{Ready, Standing, Climbed, Entering, Reached}
+use Rattle.backward.specs.Steps.{scanDown, climbOf, descentOf, beyond}
+use Rattle.backward.specs.Room.{Ready, Near, Climbed, Hold, Sunk}
+use Rattle.backward.proofs.Room.{hold, low-leaf}
 use Rattle.backward.proofs.Scan.{step-near}
 use Rattle.backward.proofs.Ends.{near-met, near-left}
 
@@ -59,21 +61,10 @@ module _ (e d : ℕ → Summary) (l : ℕ) (same : (k : ℕ) → k < 2 * l → e
       rw (r, same (2 * k + 1) o, descend-same s (2 * k + 1) t (n + 1), descend-same s (2 * k) (t +ℤ d (2 * k + 1) .total) (n + 1)))
 
 module _ (bytes : List ℕ) (idx : List ℤ) (m l : ℕ) (v : Walk) (lent : Lent bytes idx m l) (ready : Ready l v) where
-  few : l ≤ 8192
-  few = omega (arith, leaves-few m (lent .small), lent .leaves)
-
-  pub standing : Standing idx v
-  standing = record {
-    above = omega (arith, ready .leaf, ready .inside);
-    inside = omega (arith, ready .inside, lent .indexed .long, lent .leaves);
-    room = omega (arith, ready .inside, ready .want, few);
-    count = omega (arith, ready .inside, ready .reads, few);
-  }
-
   agree : (k : ℕ) → k < 2 * l → entryAt idx k ≡ entry (height m) (word bytes m) k
   agree k h = lent .indexed .reads k (omega (arith, lent .leaves))
 
-  module _ (r : Climb) (c : Climbed idx v r) where
+  module _ (r : Climb) (c : Climbed (climbOf idx) v r) where
     climbed-is : r ≡ climbBack (entry (height m) (word bytes m)) (height m) (v .entry) (v .want) (v .reads)
     climbed-is = c .same (height m) (omega (arith, ready .inside, lent .leaves, two-pow-succ (height m)))
         ∙ climb-same (entryAt idx) (entry (height m) (word bytes m)) l agree (height m) (v .entry) (v .want) (v .reads) (ready .inside)
@@ -82,28 +73,22 @@ module _ (bytes : List ℕ) (idx : List ℤ) (m l : ℕ) (v : Walk) (lent : Lent
     topped u e = ap (landedBack (height m) (word bytes m)) (sym e ∙ climbed-is)
 
     module _ (u : Walk) (e : r ≡ Enter u) where
-      near : (0 < u .entry) × (u .entry ≤ v .entry) × (natAbs (u .want) ≤ natAbs (v .want) + 2147483648 * v .entry) × (u .reads ≤ v .reads + v .entry)
+      near : Near v (Enter u)
       near = rw e at (c .near)
 
-      pub entering : Entering idx l u
-      entering = record {
-        above = near .0;
-        inside = omega (arith, lent .indexed .long, lent .leaves);
-        low = omega (arith, near .1, ready .inside);
-        room = omega (arith, near .2, ready .want, ready .inside, few);
-        count = omega (arith, near .3, ready .inside, ready .reads, few);
-      }
+      pub held : Hold idx l u
+      held = hold bytes idx m l v lent ready u near
 
-      module _ (x : Walk) (k : Reached idx l u x) where
-        reached-is : x ≡ descendBack (entry (height m) (word bytes m)) l (height m) (u .entry) (u .want) (u .reads)
-        reached-is = k .same (height m) (omega (arith, mul-le-mul-right (2 ^ height m) (near .0), lent .leaves))
+      module _ (x : Walk) (k : Sunk (descentOf idx l) l u x) where
+        sunk-is : x ≡ descendBack (entry (height m) (word bytes m)) l (height m) (u .entry) (u .want) (u .reads)
+        sunk-is = k .same (height m) (omega (arith, mul-le-mul-right (2 ^ height m) (near .0), lent .leaves))
             ∙ descend-same (entryAt idx) (entry (height m) (word bytes m)) l agree (height m) (u .entry) (u .want) (u .reads)
 
-        pub low-leaf : (l ≤ x .entry) × (x .entry ≤ 16384) × (natAbs (x .want) ≤ 1152921504606846976)
-        low-leaf = omega (arith, k .leaf, k .low, few, k .near, near .2, ready .want, ready .inside)
+        pub leaf-there : (l ≤ x .entry) × (x .entry ≤ 16384) × (natAbs (x .want) ≤ 1152921504606846976)
+        leaf-there = low-leaf bytes idx m l v lent ready u near x k
 
         pub entered : leafBack l (word bytes m) x ≡ beyond (height m) (word bytes m) v
-        entered = rw reached-is (rw (lent .leaves) (ap (landedBack (height m) (word bytes m)) (sym e ∙ climbed-is)))
+        entered = rw sunk-is (rw (lent .leaves) (ap (landedBack (height m) (word bytes m)) (sym e ∙ climbed-is)))
 
 -- ---- the first block
 pub none-before : (h : ℕ) (w : List Bool) (p : ℕ) (t : ℤ) → p ≡ 0 → (none, 0) ≡ backward h w p t
@@ -149,5 +134,5 @@ module _ (bytes : List ℕ) (idx : List ℤ) (m l p : ℕ) (t : ℤ) (lent : Len
         pub ready : Ready l (walk (l + (p - 1) / 256) (wb v) 0)
         ready = begin (wb v) (still .1)
 
-        pub found-far : beyond (height m) (word bytes m) (walk (l + (p - 1) / 256) (wb v) 0) ≡ backward (height m) (word bytes m) p t
-        found-far = rw (still .1, lent .leaves) (past-block (height m) (word bytes m) p (p - 1) t (omega arith) (still .0))
+        pub found-far : {x : Reach} → x ≡ beyond (height m) (word bytes m) (walk (l + (p - 1) / 256) (wb v) 0) → x ≡ backward (height m) (word bytes m) p t
+        found-far i = i ∙ rw (still .1, lent .leaves) (past-block (height m) (word bytes m) p (p - 1) t (omega arith) (still .0))

@@ -1,4 +1,5 @@
--- The steps of the backward walk, each as one function of the code takes it: over the bits of the bytes, and over the numbers lent.
+-- The steps of the backward walk, each as one function of the code takes it.
+-- Bits are those of the bytes lent, entries those read from the numbers lent.
 use mathlib.Core.Bool.{Bool, cond}
 use mathlib.Core.List.{List}
 use Prim.Native.Nat.{ℕ, _+_, _-_, _*_}
@@ -24,9 +25,9 @@ scanDown bytes i n t = scanned (final i (bits bytes i n) (t +ℤ depthOf (bits b
 abbrev pub beforeOf : List ℤ → ℕ → ℕ → Seen
 beforeOf idx k n = cond (even k) (seen emptyOf n) (seen (entryAt idx (k - 1)) (n + 1))
 
--- one step down, the right child read: into it, or past it into the left one
-abbrev pub down : Walk → Seen → Walk
-down v s = cond (hitBack (s .summary) (v .want)) (walk (2 * v .entry + 1) (v .want) (s .reads)) (walk (2 * v .entry) (v .want +ℤ s .summary .total) (s .reads))
+-- "read the right child first, by the same rule.": once it is read, into it, or past it into the left one
+abbrev pub downOf : Walk → Seen → Walk
+downOf v s = cond (hitBack (s .summary) (v .want)) (walk (2 * v .entry + 1) (v .want) (s .reads)) (walk (2 * v .entry) (v .want +ℤ s .summary .total) (s .reads))
 
 -- the climb from where the walk stands, and the descent, by the numbers lent
 abbrev pub climbOf : List ℤ → ℕ → Walk → Climb

@@ -13,8 +13,8 @@ ghost use Rattle.index.specs.Shape.{height};
 ghost use Rattle.walk.specs.Walk.{said};
 ghost use Rattle.walk.specs.Lent.{Lent};
 ghost use Rattle.walk.specs.Backward.{hitBack, leafBack, backward};
-ghost use Rattle.backward.specs.Steps.{scanDown, beforeOf, down, beyond};
-ghost use Rattle.backward.specs.Held.{Standing, Climbed, Entering, Reached, Ready};
+ghost use Rattle.backward.specs.Steps.{scanDown, beforeOf, downOf, climbOf, descentOf, beyond};
+ghost use Rattle.backward.specs.Room.{Ready, Footing, Climbed, Hold, Sunk};
 use summary::Summary;
 use walk::Climb;
 use walk::Found;
@@ -31,7 +31,7 @@ fn earlier(want: i64, bit: bool) -> i64
 }
 
 // The last boundary up to `to`, and after `from`, with the amount wanted from `to`; or the amount wanted from `from`.
-pub fn scan_down(bytes: &[u8], from: usize, to: usize, want: i64) -> Scan
+fn scan_down(bytes: &[u8], from: usize, to: usize, want: i64) -> Scan
     requires { ⌜ (from ≤ to) × (to ≤ 8 * length (now bytes)) × (to ≤ 2097152) × (natAbs want ≤ 1152921504606846976) ⌝ }
     ensures { λ r. ⌜ r ≡ scanDown (now (bytes .entry)) from (to - from) want ⌝ }
 {
@@ -70,9 +70,9 @@ fn before(index: &[i32], k: usize, reads: u32) -> Seen
 }
 
 // The climb, from the entry where the walk stands.
-fn climb_back(index: &[i32], start: Walk) -> Climb
-    requires { ⌜ Standing (now index) start ⌝ }
-    ensures { λ r. ⌜ Climbed (now (index .entry)) start r ⌝ }
+fn climb(index: &[i32], start: Walk) -> Climb
+    requires { ⌜ Footing (now index) start ⌝ }
+    ensures { λ r. ⌜ Climbed (climbOf (now (index .entry))) start r ⌝ }
 {
     let mut w = start;
     let found = loop {
@@ -90,9 +90,9 @@ fn climb_back(index: &[i32], start: Walk) -> Climb
 }
 
 // One step down: into the right child, or past it into the left one, unread.
-fn descend_one(w: Walk, right: Seen) -> Walk
+fn down(w: Walk, right: Seen) -> Walk
     requires { ⌜ (natAbs (w .want) ≤ 2305843009213693952) × (w .entry ≤ 1073741824) ⌝ }
-    ensures { λ r. ⌜ r ≡ down w right ⌝ }
+    ensures { λ r. ⌜ r ≡ downOf w right ⌝ }
 {
     let k = w.entry;
     if ends_well(right.summary, w.want) {
@@ -103,21 +103,21 @@ fn descend_one(w: Walk, right: Seen) -> Walk
 }
 
 // "Going down, read the right child first, by the same rule.", as far as a leaf.
-fn descend_back(index: &[i32], l: usize, start: Walk) -> Walk
-    requires { ⌜ Entering (now index) l start ⌝ }
-    ensures { λ r. ⌜ Reached (now (index .entry)) l start r ⌝ }
+fn descend(index: &[i32], l: usize, start: Walk) -> Walk
+    requires { ⌜ Hold (now index) l start ⌝ }
+    ensures { λ r. ⌜ Sunk (descentOf (now (index .entry)) l) l start r ⌝ }
 {
     let mut w = start;
     while w.entry < l {
         let k = w.entry;
         let right = walk::read(index, 2 * k + 1, w.reads);
-        w = descend_one(w, right);
+        w = down(w, right);
     }
     w
 }
 
 // The scan of the leaf reached, from its end boundary down.
-fn leaf_back(bytes: &[u8], m: usize, l: usize, w: Walk) -> Found
+fn leaf(bytes: &[u8], m: usize, l: usize, w: Walk) -> Found
     requires { ⌜ (l ≤ w .entry) × (w .entry ≤ 16384) × (m ≤ 2097152) × (m ≤ 8 * length (now bytes)) × (natAbs (w .want) ≤ 1152921504606846976) ⌝ }
     ensures { λ r. ⌜ said r ≡ leafBack l (word (now (bytes .entry)) m) w ⌝ }
 {
@@ -149,16 +149,16 @@ fn top(w: Walk) -> Found
 }
 
 // Past the first block: the climb, then entry 1, or the way down and the scan of the leaf reached.
-fn past_block(bytes: &[u8], m: usize, index: &[i32], l: usize, start: Walk) -> Found
+fn onward(bytes: &[u8], m: usize, index: &[i32], l: usize, start: Walk) -> Found
     requires { ⌜ Lent (now bytes) (now index) m l × Ready l start ⌝ }
     ensures { λ r. ⌜ said r ≡ beyond (height m) (word (now (bytes .entry)) m) start ⌝ }
 {
-    let found = climb_back(index, start);
+    let found = climb(index, start);
     match found {
         Climb::Top(v) => top(v),
         Climb::Enter(v) => {
-            let w = descend_back(index, l, v);
-            leaf_back(bytes, m, l, w)
+            let w = descend(index, l, v);
+            leaf(bytes, m, l, w)
         }
     }
 }
@@ -184,7 +184,7 @@ pub fn backward(bytes: &[u8], m: usize, index: &[i32], l: usize, p: usize, want:
                 want: u,
                 reads: 0,
             };
-            past_block(bytes, m, index, l, w)
+            onward(bytes, m, index, l, w)
         }
     }
 }

@@ -16,7 +16,7 @@ use Rattle.summary.specs.Stretch.{depthOf}
 use Rattle.summary.proofs.Bounds.{depth-within}
 use Rattle.index.specs.Shape.{height, entry, even}
 use Rattle.index.specs.Lent.{entryAt}
-use Rattle.index.proofs.Height.{height-reaches, leaves-few}
+use Rattle.index.proofs.Height.{height-reaches}
 use Rattle.index.proofs.Level.{even-yes, leb-no}
 use Rattle.walk.specs.declared.Walk.{Walk}
 use Rattle.walk.specs.declared.Scan.{Scan}
@@ -27,8 +27,10 @@ use Rattle.walk.specs.Walk.{walk}
 use Rattle.walk.specs.Scan.{ahead}
 use Rattle.walk.specs.Forward.{climb, descend, leafScan, landed, forward}
 use Rattle.walk.specs.Lent.{Lent}
+use Rattle.walk.specs.Room.{Ready, Near, Climbed, Hold, Sunk}
+use Rattle.walk.proofs.Room.{hold, low-leaf}
+use Rattle.forward.specs.Steps.{scanOf, climbOf, descentOf, beyond}
 use Rattle.forward.proofs.Ends.{start-met, start-left, start-still}
-use Rattle.forward.specs.Steps.{scanOf, Footing, Climbed, Hold, Sunk, Ready, whole}
 
 -- two ways to read the entries that agree below b give the same walk
 module _ (e d : ℕ → Summary) (l : ℕ) (same : (k : ℕ) → k < 2 * l → e k ≡ d k) where
@@ -51,50 +53,33 @@ module _ (e d : ℕ → Summary) (l : ℕ) (same : (k : ℕ) → k < 2 * l → e
       rw (r, same (2 * k) o, descend-same s (2 * k) t (n + 1), descend-same s (2 * k + 1) (t -ℤ d (2 * k) .total) (n + 1)))
 
 module _ (bytes : List ℕ) (idx : List ℤ) (m l : ℕ) (v : Walk) (lent : Lent bytes idx m l) (ready : Ready l v) where
-  few : l ≤ 8192
-  few = omega (arith, leaves-few m (lent .small), lent .leaves)
-
-  pub footing : Footing idx v
-  footing = record {
-    above = omega (arith, ready .leaf, ready .inside);
-    inside = omega (arith, ready .inside, lent .indexed .long, lent .leaves);
-    room = omega (arith, ready .inside, ready .want, few);
-    count = omega (arith, ready .inside, ready .reads, few);
-  }
-
   agree : (k : ℕ) → k < 2 * l → entryAt idx k ≡ entry (height m) (word bytes m) k
   agree k h = lent .indexed .reads k (omega (arith, lent .leaves))
 
-  module _ (r : Climb) (c : Climbed idx v r) where
+  module _ (r : Climb) (c : Climbed (climbOf idx) v r) where
     climbed-is : r ≡ climb (entry (height m) (word bytes m)) (height m) (v .entry) (v .want) (v .reads)
     climbed-is = c .same (height m) (omega (arith, ready .inside, lent .leaves, two-pow-succ (height m)))
         ∙ climb-same (entryAt idx) (entry (height m) (word bytes m)) l agree (height m) (v .entry) (v .want) (v .reads) (ready .inside)
 
-    pub no-entry : (u : Walk) → r ≡ Top u → (none, u .reads) ≡ whole bytes m v
-    no-entry u e = ap (landed (height m) (word bytes m)) (sym e ∙ climbed-is)
+    pub topped : (u : Walk) → r ≡ Top u → (none, u .reads) ≡ beyond (height m) (word bytes m) v
+    topped u e = ap (landed (height m) (word bytes m)) (sym e ∙ climbed-is)
 
     module _ (u : Walk) (e : r ≡ Enter u) where
-      near : (0 < u .entry) × (u .entry ≤ v .entry + 1) × (natAbs (u .want) ≤ natAbs (v .want) + 2147483648 * v .entry) × (u .reads ≤ v .reads + v .entry)
+      near : Near v (Enter u)
       near = rw e at (c .near)
 
-      pub hold : Hold idx l u
-      hold = record {
-        above = near .0;
-        inside = omega (arith, lent .indexed .long, lent .leaves);
-        low = omega (arith, near .1, ready .inside);
-        room = omega (arith, near .2, ready .want, ready .inside, few);
-        count = omega (arith, near .3, ready .inside, ready .reads, few);
-      }
+      pub held : Hold idx l u
+      held = hold bytes idx m l v lent ready u near
 
-      module _ (x : Walk) (k : Sunk idx l u x) where
+      module _ (x : Walk) (k : Sunk (descentOf idx l) l u x) where
         sunk-is : x ≡ descend (entry (height m) (word bytes m)) l (height m) (u .entry) (u .want) (u .reads)
         sunk-is = k .same (height m) (omega (arith, mul-le-mul-right (2 ^ height m) (near .0), lent .leaves))
             ∙ descend-same (entryAt idx) (entry (height m) (word bytes m)) l agree (height m) (u .entry) (u .want) (u .reads)
 
-        pub low-leaf : (l ≤ x .entry) × (x .entry ≤ 16384) × (natAbs (x .want) ≤ 1152921504606846976)
-        low-leaf = omega (arith, k .leaf, k .low, few, k .near, near .2, ready .want, ready .inside)
+        pub leaf-there : (l ≤ x .entry) × (x .entry ≤ 16384) × (natAbs (x .want) ≤ 1152921504606846976)
+        leaf-there = low-leaf bytes idx m l v lent ready u near x k
 
-        pub entered : leafScan l (word bytes m) x ≡ whole bytes m v
+        pub entered : leafScan l (word bytes m) x ≡ beyond (height m) (word bytes m) v
         entered = rw sunk-is (rw (lent .leaves) (ap (landed (height m) (word bytes m)) (sym e ∙ climbed-is)))
 
 -- ---- the first block
@@ -124,6 +109,6 @@ module _ (bytes : List ℕ) (idx : List ℤ) (m l p : ℕ) (t : ℤ) (lent : Len
       reads = refl;
     }
 
-    pub found-far : whole bytes m (walk (l + p / 256) u 0) ≡ forward (height m) (word bytes m) p t
+    pub found-far : beyond (height m) (word bytes m) (walk (l + p / 256) u 0) ≡ forward (height m) (word bytes m) p t
     unfolding forward
     found-far = rw (start-left bytes m p t b to i s r x y, wanted, lent .leaves)

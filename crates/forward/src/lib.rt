@@ -7,11 +7,11 @@ ghost use lib.IntN.{natAbs, _-ℤ_};
 ghost use Rattle.word.specs.Bits.{word};
 ghost use Rattle.summary.specs.Stretch.{step};
 ghost use Rattle.index.specs.Shape.{height};
-ghost use Rattle.index.specs.Lent.{entryAt};
 ghost use Rattle.walk.specs.Walk.{said};
 ghost use Rattle.walk.specs.Forward.{leafScan, forward};
 ghost use Rattle.walk.specs.Lent.{Lent};
-ghost use Rattle.forward.specs.Steps.{scanOf, besideOf, downOf, Footing, Climbed, Hold, Sunk, Ready, whole};
+ghost use Rattle.walk.specs.Room.{Ready, Footing, Climbed, Hold, Sunk};
+ghost use Rattle.forward.specs.Steps.{scanOf, besideOf, downOf, climbOf, descentOf, beyond};
 use walk::Climb;
 use walk::Found;
 use walk::Scan;
@@ -27,7 +27,7 @@ fn less(want: i64, bit: bool) -> i64
 }
 
 // The first boundary after `from`, up to `to`, whose depth from `from` is what is wanted.
-pub fn scan(bytes: &[u8], from: usize, to: usize, want: i64) -> Scan
+fn scan(bytes: &[u8], from: usize, to: usize, want: i64) -> Scan
     requires { ⌜ (from ≤ to) × (to ≤ 8 * length (now bytes)) × (to ≤ 4194304) × (natAbs want ≤ 1152921504606846976) ⌝ }
     ensures { λ r. ⌜ r ≡ scanOf (now (bytes .entry)) from (to - from) want ⌝ }
 {
@@ -45,22 +45,21 @@ pub fn scan(bytes: &[u8], from: usize, to: usize, want: i64) -> Scan
 }
 
 // "at an even entry k read k+1"; at an odd one nothing is read.
-fn beside(index: &[i32], w: Walk) -> Seen
-    requires { ⌜ (8 * (w .entry / 2) + 7 < length (now index)) × (w .reads ≤ 1073741824) ⌝ }
-    ensures { λ r. ⌜ r ≡ besideOf (entryAt (now (index .entry))) (w .entry) (w .reads) ⌝ }
+fn beside(index: &[i32], k: usize, reads: u32) -> Seen
+    requires { ⌜ (8 * (k / 2) + 7 < length (now index)) × (reads ≤ 1073741824) ⌝ }
+    ensures { λ r. ⌜ r ≡ besideOf (now (index .entry)) k reads ⌝ }
 {
-    let k = w.entry;
     if k % 2 == 0 {
-        walk::read(index, k + 1, w.reads)
+        walk::read(index, k + 1, reads)
     } else {
-        walk::unread(w.reads)
+        walk::unread(reads)
     }
 }
 
 // "if its count isn't 0 and least ≤ t ≤ greatest, go down into it, else take its total off t; then halve k."
-pub fn climb(index: &[i32], start: Walk) -> Climb
+fn climb(index: &[i32], start: Walk) -> Climb
     requires { ⌜ Footing (now index) start ⌝ }
-    ensures { λ r. ⌜ Climbed (now (index .entry)) start r ⌝ }
+    ensures { λ r. ⌜ Climbed (climbOf (now (index .entry))) start r ⌝ }
 {
     let mut w = start;
     let found = loop {
@@ -68,43 +67,44 @@ pub fn climb(index: &[i32], start: Walk) -> Climb
         if k == 1 {
             break Climb::Top(w);
         }
-        let seen = beside(index, w);
-        if walk::holds(seen.summary, w.want) {
-            break Climb::Enter(w.enter(k + 1, seen));
+        let s = beside(index, k, w.reads);
+        if walk::holds(s.summary, w.want) {
+            break Climb::Enter(w.enter(k + 1, s));
         }
-        w = w.less(k / 2, seen);
+        w = w.less(k / 2, s);
     };
     found
 }
 
-// "read the left child; enter it on the same test, else take its total off t and enter the right one unread."
-fn down(index: &[i32], w: Walk) -> Walk
-    requires { ⌜ (8 * w .entry + 3 < length (now index)) × (natAbs (w .want) ≤ 2305843009213693952) × (w .reads ≤ 1073741824) × (w .entry ≤ 1073741824) ⌝ }
-    ensures { λ r. ⌜ (r ≡ downOf (entryAt (now (index .entry))) (w .entry) (w .want) (w .reads)) × (natAbs (r .want) ≤ natAbs (w .want) + 2147483648) ⌝ }
+// One step down: into the left child, or past it into the right one, unread.
+fn down(w: Walk, left: Seen) -> Walk
+    requires { ⌜ (natAbs (w .want) ≤ 2305843009213693952) × (w .entry ≤ 1073741824) ⌝ }
+    ensures { λ r. ⌜ r ≡ downOf w left ⌝ }
 {
     let k = w.entry;
-    let seen = walk::read(index, 2 * k, w.reads);
-    if walk::holds(seen.summary, w.want) {
-        w.enter(2 * k, seen)
+    if walk::holds(left.summary, w.want) {
+        w.enter(2 * k, left)
     } else {
-        w.less(2 * k + 1, seen)
+        w.less(2 * k + 1, left)
     }
 }
 
-// The way down to a leaf: an entry from l on.
-pub fn descend(index: &[i32], l: usize, start: Walk) -> Walk
+// "Going down, read the left child; enter it on the same test", as far as a leaf.
+fn descend(index: &[i32], l: usize, start: Walk) -> Walk
     requires { ⌜ Hold (now index) l start ⌝ }
-    ensures { λ r. ⌜ Sunk (now (index .entry)) l start r ⌝ }
+    ensures { λ r. ⌜ Sunk (descentOf (now (index .entry)) l) l start r ⌝ }
 {
     let mut w = start;
     while w.entry < l {
-        w = down(index, w);
+        let k = w.entry;
+        let left = walk::read(index, 2 * k, w.reads);
+        w = down(w, left);
     }
     w
 }
 
 // "Scan the leaf reached."
-pub fn leaf(bytes: &[u8], m: usize, l: usize, w: Walk) -> Found
+fn leaf(bytes: &[u8], m: usize, l: usize, w: Walk) -> Found
     requires { ⌜ (l ≤ w .entry) × (w .entry ≤ 16384) × (m ≤ 2097152) × (m ≤ 8 * length (now bytes)) × (natAbs (w .want) ≤ 1152921504606846976) ⌝ }
     ensures { λ r. ⌜ said r ≡ leafScan l (word (now (bytes .entry)) m) w ⌝ }
 {
@@ -126,7 +126,7 @@ pub fn leaf(bytes: &[u8], m: usize, l: usize, w: Walk) -> Found
 // Past the first block: the climb, the way down, and the scan of the leaf reached. "At entry 1 there is none."
 fn onward(bytes: &[u8], m: usize, index: &[i32], l: usize, start: Walk) -> Found
     requires { ⌜ Lent (now bytes) (now index) m l × Ready l start ⌝ }
-    ensures { λ r. ⌜ said r ≡ whole (now (bytes .entry)) m start ⌝ }
+    ensures { λ r. ⌜ said r ≡ beyond (height m) (word (now (bytes .entry)) m) start ⌝ }
 {
     let found = climb(index, start);
     match found {

@@ -18,9 +18,10 @@ use Rattle.summary.specs.Stretch.{summaryOf}
 use Rattle.summary.proofs.Meaning.{total-is, opens-twice}
 use Rattle.index.specs.Shape.{height, block, entry}
 use Rattle.index.proofs.Height.{leaves-few, height-small}
-use Rattle.index.proofs.Level.{Level, twice, level-left, level-right, level-high, below-leaves, entry-is}
+use Rattle.index.proofs.Level.{Level, level-left, level-right, level-high, below-leaves}
 use Rattle.walk.specs.Scan.{nth}
 use Rattle.walk.specs.Lent.{Lent}
+use Rattle.walk.proofs.Places.{Starts, root-level, root-starts, left-starts, right-starts, stands}
 use Rattle.walk.specs.Select.{seek, openings, selectDown, leafNth, select}
 use Rattle.select.specs.declared.Sink.{Sink}
 use Rattle.select.specs.Sink.{sink, sumOf, sunk, Over}
@@ -55,7 +56,7 @@ pub record Kept (bytes : List ℕ) (m r : ℕ) (v : Sink) : Type 0 where
   pub f : ℕ
   pub g : ℕ
   pub level : Level (height m) f g (v .entry)
-  pub starts : 2 ^ height m + v .block ≡ v .entry * 2 ^ g
+  pub starts : Starts (height m) g (v .entry) (v .block)
   pub wide : v .width ≡ 2 ^ g
   pub count : v .reads ≤ f
   pub is : selectDown (entry (height m) (word bytes m)) m g (v .entry) (v .block) (v .number) (v .reads) ≡ selectDown (entry (height m) (word bytes m)) m (height m) 1 0 r 0
@@ -65,8 +66,8 @@ module _ (bytes : List ℕ) (idx : List ℤ) (m l r : ℕ) (lent : Lent bytes id
   kept-start = record {
     f = 0;
     g = height m;
-    level = record { levels = omega zarith; low = omega zarith; high = omega zarith };
-    starts = omega zarith;
+    level = root-level (height m);
+    starts = root-starts (height m);
     wide = lent .leaves;
     count = omega zarith;
     is = refl;
@@ -75,7 +76,7 @@ module _ (bytes : List ℕ) (idx : List ℤ) (m l r : ℕ) (lent : Lent bytes id
   module _ (v : Sink) (kept : Kept bytes m r v) where
     -- the blocks under the entry are among the leaves
     blocks-inside : v .block + v .width ≤ 2 ^ height m
-    blocks-inside = omega (zarith, kept .wide, kept .starts, level-high (kept .level))
+    blocks-inside = omega (zarith, kept .wide, kept .starts .at, level-high (kept .level))
 
     pub block-near : v .block ≤ 8192
     block-near = omega (zarith, blocks-inside, leaves-few m (lent .small))
@@ -91,13 +92,7 @@ module _ (bytes : List ℕ) (idx : List ℤ) (m l r : ℕ) (lent : Lent bytes id
         go (suc g) w i = absurd (omega (zarith, two-pow-succ g, one-le-pow g 2 (omega zarith)))
 
     -- below an entry that is no leaf, g levels above the leaves
-    module _ (g : ℕ) (level : Level (height m) (kept .f) (suc g) (v .entry)) (starts : 2 ^ height m + v .block ≡ v .entry * 2 ^ suc g) (wide : v .width ≡ 2 ^ suc g) where
-      left-starts : 2 ^ height m + v .block ≡ 2 * v .entry * 2 ^ g
-      left-starts = omega (zarith, starts, twice (v .entry) g)
-
-      right-starts : 2 ^ height m + (v .block + 2 ^ g) ≡ (2 * v .entry + 1) * 2 ^ g
-      right-starts = omega (zarith, starts, twice (v .entry) g)
-
+    module _ (g : ℕ) (level : Level (height m) (kept .f) (suc g) (v .entry)) (starts : Starts (height m) (suc g) (v .entry) (v .block)) (wide : v .width ≡ 2 ^ suc g) where
       half : v .width / 2 ≡ 2 ^ g
       half = omega (zarith, wide, two-pow-succ g)
 
@@ -107,7 +102,7 @@ module _ (bytes : List ℕ) (idx : List ℤ) (m l r : ℕ) (lent : Lent bytes id
 
       sum-over : pos 0 ≤ℤ sumOf idx m v
       sum-over = rw sum-own (rw (length-bits bytes 0 m) at (sum-twice (word bytes m) (256 * 2 ^ g) (256 * v .block) (entry (height m) (word bytes m) (2 * v .entry))
-          (entry-is (height m) (suc (kept .f)) g (2 * v .entry) (v .block) (word bytes m) (level-left level) left-starts)))
+          (stands (height m) (word bytes m) (level-left level) (left-starts starts))))
 
       over-at : Over idx m v
       over-at = record {
@@ -127,7 +122,7 @@ module _ (bytes : List ℕ) (idx : List ℤ) (m l r : ℕ) (lent : Lent bytes id
               f = suc (kept .f);
               g = g;
               level = level-left level;
-              starts = left-starts;
+              starts = left-starts starts;
               wide = half;
               count = omega (zarith, kept .count);
               is = sym (go-left (entry (height m) (word bytes m)) m g (v .entry) (v .block) (v .number) (v .reads) (rw sum-own at y)) ∙ i;
@@ -136,7 +131,7 @@ module _ (bytes : List ℕ) (idx : List ℤ) (m l r : ℕ) (lent : Lent bytes id
               f = suc (kept .f);
               g = g;
               level = level-right level;
-              starts = rw half right-starts;
+              starts = rw half (right-starts starts);
               wide = half;
               count = omega (zarith, kept .count);
               is = rw (sum-own, half) (sym (go-right (entry (height m) (word bytes m)) m g (v .entry) (v .block) (v .number) (v .reads) (rw sum-own at y)) ∙ i);
@@ -147,14 +142,14 @@ module _ (bytes : List ℕ) (idx : List ℤ) (m l r : ℕ) (lent : Lent bytes id
       pub over : Over idx m v
       over = go (kept .g) (kept .level) (kept .starts) (kept .wide)
         where
-          go : (g : ℕ) → Level (height m) (kept .f) g (v .entry) → 2 ^ height m + v .block ≡ v .entry * 2 ^ g → v .width ≡ 2 ^ g → Over idx m v
+          go : (g : ℕ) → Level (height m) (kept .f) g (v .entry) → Starts (height m) g (v .entry) (v .block) → v .width ≡ 2 ^ g → Over idx m v
           go zero x y z = absurd (omega zarith)
           go (suc g) x y z = over-at g x y z
 
       pub kept-on : (u : Sink) → u ≡ sunk idx m v → Kept bytes m r u
       kept-on u e = rw e (go (kept .g) (kept .level) (kept .starts) (kept .wide) (kept .is))
         where
-          go : (g : ℕ) → Level (height m) (kept .f) g (v .entry) → 2 ^ height m + v .block ≡ v .entry * 2 ^ g → v .width ≡ 2 ^ g
+          go : (g : ℕ) → Level (height m) (kept .f) g (v .entry) → Starts (height m) g (v .entry) (v .block) → v .width ≡ 2 ^ g
               → selectDown (entry (height m) (word bytes m)) m g (v .entry) (v .block) (v .number) (v .reads) ≡ selectDown (entry (height m) (word bytes m)) m (height m) 1 0 r 0 → Kept bytes m r (sunk idx m v)
           go zero x y z i = absurd (omega zarith)
           go (suc g) x y z i = on g x y z i

@@ -43,26 +43,28 @@ unfolding final
 final-nil i t = refl
 
 pub final-none : (i : ℕ) (z : List Bool) (t : ℤ) → final i z t ≡ none → Nowhere z t
+unfolding final
 final-none i [] t e = λ j l d. omega zarith
 final-none i (b ∷ z) t e = by-option (final (suc i) z (t -ℤ step b))
     (λ f. by-test (eqZ (step b) t)
-    (λ h. absurd (none-some {a = suc i} e (final-cons i b z t ∙ rw (f, h))))
+    (λ h. absurd (none-some {a = suc i} e (rw (f, h))))
     (λ h. nowhere-cons b z t h (final-none (suc i) z (t -ℤ step b) f)))
-    (λ q f. absurd (none-some {a = q} e (final-cons i b z t ∙ rw f)))
+    (λ q f. absurd (none-some {a = q} e (rw f)))
 
 pub final-some : (i : ℕ) (z : List Bool) (t : ℤ) (q : ℕ) → final i z t ≡ some q → Final i z t q
-final-some i [] t q e = absurd (none-some (final-nil i t) e)
+unfolding final
+final-some i [] t q e = absurd (none-some refl e)
 final-some i (b ∷ z) t q e = by-option (final (suc i) z (t -ℤ step b))
     (λ f. by-test (eqZ (step b) t)
     (λ h. record {
       after = 0;
-      is = omega (zarith, some-is {a = suc i} (final-cons i b z t ∙ rw (f, h)) e);
+      is = omega (zarith, some-is {a = suc i} (rw (f, h)) e);
       ends = omega zarith;
       there = one-there b z t h;
       latest = none-later (final-none (suc i) z (t -ℤ step b) f);
     })
-    (λ h. absurd (none-some (final-cons i b z t ∙ rw (f, h)) e)))
-    (λ r f. later (final-some (suc i) z (t -ℤ step b) q (f ∙ ap {B = Option ℕ} some (omega (zarith, some-is {a = r} (final-cons i b z t ∙ rw f) e)))))
+    (λ h. absurd (none-some (rw (f, h)) e)))
+    (λ r f. later (final-some (suc i) z (t -ℤ step b) q (f ∙ ap {B = Option ℕ} some (omega (zarith, some-is {a = r} (rw f) e)))))
   where
     none-later : Nowhere z (t -ℤ step b) → (j : ℕ) → 0 < j → j < suc (length z) → depthOf (take (suc j) (b ∷ z)) ≡ t → ⊥
     none-later f zero l k d = omega zarith

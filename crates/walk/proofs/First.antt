@@ -43,16 +43,17 @@ unfolding first
 first-nil i t = refl
 
 pub first-some : (i : ℕ) (z : List Bool) (t : ℤ) (q : ℕ) → first i z t ≡ some q → First i z t q
-first-some i [] t q e = absurd (none-some (first-nil i t) e)
+unfolding first
+first-some i [] t q e = absurd (none-some refl e)
 first-some i (b ∷ z) t q e = by-test (eqZ (step b) t)
     (λ h. record {
       after = 0;
-      is = omega (zarith, some-is {a = suc i} (first-cons i b z t ∙ rw h) e);
+      is = omega (zarith, some-is {a = suc i} (rw h) e);
       ends = omega zarith;
       there = one-there b z t h;
       soonest = λ j l. absurd (omega zarith);
     })
-    (λ h. later h (first-some (suc i) z (t -ℤ step b) q (rw h at (sym (first-cons i b z t) ∙ e))))
+    (λ h. later h (first-some (suc i) z (t -ℤ step b) q (rw h at e)))
   where
     soon : (a : ℕ) → eqZ (step b) t ≡ false → ((j : ℕ) → j < a → depthOf (take (suc j) z) ≡ t -ℤ step b → ⊥) → (j : ℕ) → j < suc a → depthOf (take (suc j) (b ∷ z)) ≡ t → ⊥
     soon a h s zero l e = one-other b z t h e
@@ -68,10 +69,11 @@ first-some i (b ∷ z) t q e = by-test (eqZ (step b) t)
     }
 
 pub first-none : (i : ℕ) (z : List Bool) (t : ℤ) → first i z t ≡ none → Nowhere z t
+unfolding first
 first-none i [] t e = λ j l d. omega zarith
 first-none i (b ∷ z) t e = by-test (eqZ (step b) t)
-    (λ h. absurd (none-some {a = suc i} e (first-cons i b z t ∙ rw h)))
-    (λ h. nowhere-cons b z t h (first-none (suc i) z (t -ℤ step b) (rw h at (sym (first-cons i b z t) ∙ e))))
+    (λ h. absurd (none-some {a = suc i} e (rw h)))
+    (λ h. nowhere-cons b z t h (first-none (suc i) z (t -ℤ step b) (rw h at e)))
 
 pub first-scans : (i : ℕ) (z : List Bool) (t : ℤ) → Scans z t (first i z t)
 first-scans i z t = record {

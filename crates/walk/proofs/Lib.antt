@@ -9,5 +9,6 @@ pub mod Options
 pub mod Places
 pub mod Prefix
 pub mod Range
+pub mod Room
 pub mod Select
 pub mod Signed64

@@ -3,6 +3,7 @@ pub mod Forward
 pub mod Lent
 pub mod Prefix
 pub mod Range
+pub mod Room
 pub mod Scan
 pub mod Select
 pub mod Walk

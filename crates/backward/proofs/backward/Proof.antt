@@ -1,6 +1,5 @@
 -- `backward` meets its contract.
 use borrow.Author.Needs.{needs}
-use mathlib.Core.Path.{_∙_}
 use mir.Facts.{toZ-ofZ}
 use Rattle.word.specs.Bits.{word}
 use Rattle.word.proofs.Signed.{zarith}
@@ -42,8 +41,8 @@ enum-known-s-2 c = search needs
 add-t18 : tie.Need-add-t18
 add-t18 c = search needs
 
-past-block-requires : tie.Need-past-block-requires
-past-block-requires c κs = let f = c .before .before .before in let e = f .before in let o = e .before .opens in let i = e .before .before in let s = i .before .before in let a = s .args in (
+onward-requires : tie.Need-onward-requires
+onward-requires c κs = let f = c .before .before .before in let e = f .before in let o = e .before .opens in let i = e .before .before in let s = i .before .before in let a = s .args in (
   s .pre .0,
   ready (a .bytes .now) (a .index .now) (a .m) (a .l) (a .p) (a .want) (s .pre .0) (s .pre .1) (i .if1 .left) (s .pre .2)
       (o .result) (e .earlier .result) (s .fits .want) (o .ensures) (e .earlier .ok) (e .earlier .ensures)
@@ -58,9 +57,9 @@ returns-2 c = let f = c .before .before .before in let e = f .before in let o = 
 
 returns-3 : tie.Need-returns-3
 returns-3 c = let f = c .before .before .before .before in let e = f .before in let o = e .before .opens in let i = e .before .before in let s = i .before .before in let a = s .args in
-    c .past-block .ensures ∙ found-far (a .bytes .now) (a .index .now) (a .m) (a .l) (a .p) (a .want) (s .pre .0) (s .pre .1) (i .if1 .left) (s .pre .2)
+    found-far (a .bytes .now) (a .index .now) (a .m) (a .l) (a .p) (a .want) (s .pre .0) (s .pre .1) (i .if1 .left) (s .pre .2)
     (o .result) (e .earlier .result) (s .fits .want) (o .ensures) (e .earlier .ok) (e .earlier .ensures)
-    (f .scan-down .result) (f .scan-down .ensures) _ (c .before .before .s2 .given .1) (c .before .known-told2 .given .0 .1)
+    (f .scan-down .result) (f .scan-down .ensures) _ (c .before .before .s2 .given .1) (c .before .known-told2 .given .0 .1) (c .onward .ensures)
 
 pub backward-spec : {M : Type 1} → statement M
 backward-spec =
@@ -75,6 +74,6 @@ backward-spec =
     enum-known-s
     enum-known-s-2
     add-t18
-    past-block-requires
+    onward-requires
     returns-2
     returns-3)

@@ -10,8 +10,6 @@ use Rattle.backward.specs.Steps.{scanDown}
 use Rattle.backward.proofs.Scan.{scan-end, turn-met, turn-next, turn-near}
 use Rattle.backward.proofs.scan_down.Statement.{statement}
 use Rattle.backward.proofs.scan_down.Tie as tie
-use Rattle.backward.proofs.scan_down.Reads as reads
-use Rattle.backward.proofs.scan_down.Lts as lts
 
 abbrev Inv-loop : tie.InvT-loop
 Inv-loop bytes from to want t₀ i₀ t i = (from ≤ i) × (i ≤ to) × (natAbs (toZ w64 t) ≤ 1152921504606846976 + (to - i)) × (scanDown bytes from (i - from) (toZ w64 t) ≡ scanDown bytes from (to - from) (toZ w64 want))

@@ -16,10 +16,10 @@ unread-requires : tie.Need-unread-requires
 unread-requires c κs = search needs
 
 returns : tie.Need-returns
-returns c = c .read .ensures ∙ rw (eq-eqb (c .before .before .args .w .entry % 2) 0 (c .before .if1 .taken))
+returns c = c .read .ensures ∙ rw (eq-eqb (c .before .before .args .k % 2) 0 (c .before .if1 .taken))
 
 returns-2 : tie.Need-returns-2
-returns-2 c = c .unread .ensures ∙ rw (ne-eqb (c .before .before .args .w .entry % 2) 0 (c .before .if1 .left))
+returns-2 c = c .unread .ensures ∙ rw (ne-eqb (c .before .before .args .k % 2) 0 (c .before .if1 .left))
 
 pub beside-spec : {M : Type 1} → statement M
 beside-spec = tie.close (tie.spec add-read read-requires unread-requires returns returns-2)

@@ -2,21 +2,24 @@
 use mathlib.Core.Path.{sym, _∙_}
 use Rattle.word.proofs.Signed.{zarith}
 use Rattle.walk.proofs.Machine.{back64}
-use Rattle.forward.proofs.Climbing.{Kept, kept-start, climbed-root, climbed-hit, kept-on}
+use Rattle.walk.proofs.Room.{Climbing, climb-start}
+use Rattle.forward.specs.Steps.{climbOf}
+use Rattle.forward.proofs.Climbing.{climbed-root, climbed-hit, climbed-on}
 use Rattle.forward.proofs.climb.Statement.{statement}
 use Rattle.forward.proofs.climb.Tie as tie
 
 abbrev Inv-loop : tie.InvT-loop
-Inv-loop index w₀ w = Kept index w₀ w
+Inv-loop index w₀ w = Climbing (climbOf index) w₀ w
 
 abbrev μ-loop : tie.MeasureT-loop
 μ-loop index w₀ w = w .entry
 
 loop-holds : tie.Need-loop-holds Inv-loop μ-loop
-loop-holds c = kept-start (c .args .index .now) (c .args .start) (c .pre)
+loop-holds c = climb-start (climbOf (c .args .index .now)) (c .args .start) (c .pre .above)
 
 beside-requires : tie.Need-beside-requires Inv-loop μ-loop
-beside-requires c κs = let a = c .before in (a .loop .inv .inside, omega (zarith, a .loop .inv .count, a .before .pre .count))
+beside-requires c κs = let a = c .before in
+    omega (zarith, a .loop .inv .above, a .loop .inv .lower, a .loop .inv .count, a .before .pre .inside, a .before .pre .count)
 
 holds-requires : tie.Need-holds-requires Inv-loop μ-loop
 holds-requires c κs = tt
@@ -38,9 +41,9 @@ loop-again : tie.Need-loop-again Inv-loop μ-loop
 loop-again c = let b = c .before .before .before .before in let a = b .before .before in
     let f = c .before .before .before .struct-told .given .1 .0 .1 in
     let e = b .beside .ensures in
-    kept-on (a .before .args .index .now) (a .before .args .start) (a .loop .w) (a .loop .inv) (b .before .if1 .left)
+    rw (c .less .ensures, e) (climbed-on (a .before .args .index .now) (a .before .args .start) (a .loop .w) (a .loop .inv) (b .before .if1 .left)
     (rw (back64 (a .loop .w .want) f, e) at (sym (c .before .before .holds .ensures) ∙ c .before .if2 .left))
-    (c .less .result) (rw e at (c .less .ensures)) (rw e at (b .beside .ok .1 .1 .0 .1 .1 .0 .1))
+    (rw e at (b .beside .ok .1 .1 .0 .1 .1 .0 .1)))
 
 returns : tie.Need-returns Inv-loop μ-loop
 returns c = let a = c .before in climbed-root (a .before .args .index .now) (a .before .args .start) (a .loop .w) (a .loop .inv) (c .if1 .taken)

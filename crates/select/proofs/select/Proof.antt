@@ -1,5 +1,4 @@
 -- `select` meets its contract.
-use mathlib.Core.Path.{_∙_}
 use Rattle.word.proofs.Signed.{zarith}
 use Rattle.select.proofs.Descent.{Kept, kept-start, block-near, kept-end, over, kept-on, narrower}
 use Rattle.select.proofs.select.Statement.{statement}
@@ -39,7 +38,7 @@ scan-requires c κs = let s = c .before .before .before .before .before in omega
 
 returns : tie.Need-returns Inv-loop μ-loop
 returns c = let e = c .before in let d = e .before .before .before in let s = d .before .before in let a = s .args in
-    c .scan .ensures ∙ kept-end (a .bytes .now) (a .index .now) (a .m) (a .l) (a .r) (s .pre) (d .loop .v) (d .loop .inv) (omega zarith) (e .end-of .result) (e .end-of .ensures)
+    rw (c .scan .ensures) (kept-end (a .bytes .now) (a .index .now) (a .m) (a .l) (a .r) (s .pre) (d .loop .v) (d .loop .inv) (omega zarith) (e .end-of .result) (e .end-of .ensures))
 
 pub select-spec : {M : Type 1} → statement M
 select-spec =

@@ -1,8 +1,8 @@
--- `leaf_back` meets its contract.
+-- `leaf` meets its contract.
 use borrow.Author.Needs.{needs}
 use Rattle.backward.proofs.Ends.{past-word, leaf-met, leaf-left}
-use Rattle.backward.proofs.leaf_back.Statement.{statement}
-use Rattle.backward.proofs.leaf_back.Tie as tie
+use Rattle.backward.proofs.leaf.Statement.{statement}
+use Rattle.backward.proofs.leaf.Tie as tie
 
 sub-b : tie.Need-sub-b
 sub-b c = search needs
@@ -35,8 +35,8 @@ returns-3 c = let f = c .before .before in let e = f .before .before in let s = 
     leaf-left (s .bytes .now) (s .m) (s .l) (s .w) (e .end-of .result) (f .scan-down .result) (e .before .if1 .left) (e .end-of .ensures) (f .before .struct-told .given .1 .0 .1)
     (f .scan-down .ensures) _ (c .enum-told .given .1)
 
-pub leaf-back-spec : {M : Type 1} → statement M
-leaf-back-spec =
+pub leaf-spec : {M : Type 1} → statement M
+leaf-spec =
     tie.close
     (tie.spec
     sub-b

@@ -1,14 +1,12 @@
--- `climb_back` meets its contract: what is left of the climb gives what the whole gives.
+-- `climb` meets its contract: what is left of the climb gives what the whole gives.
 use mathlib.Core.Path.{sym, _∙_}
 use Rattle.word.proofs.Signed.{zarith}
 use Rattle.walk.proofs.Machine.{back64}
 use Rattle.backward.specs.Steps.{climbOf}
-use Rattle.backward.proofs.Room.{Climbing, climb-start, climb-on}
-use Rattle.backward.proofs.Climb.{climbed-root, climbed-hit, step-up}
-use Rattle.backward.proofs.climb_back.Statement.{statement}
-use Rattle.backward.proofs.climb_back.Tie as tie
-use Rattle.backward.proofs.climb_back.Reads as reads
-use Rattle.backward.proofs.climb_back.Lts as lts
+use Rattle.backward.proofs.Room.{Climbing, climb-start}
+use Rattle.backward.proofs.Climbing.{climbed-root, climbed-hit, climbed-on}
+use Rattle.backward.proofs.climb.Statement.{statement}
+use Rattle.backward.proofs.climb.Tie as tie
 
 abbrev Inv-loop : tie.InvT-loop
 Inv-loop index w₀ w = Climbing (climbOf index) w₀ w
@@ -44,11 +42,10 @@ loop-less c = let a = c .before .before .before .before .before .before in
 loop-again : tie.Need-loop-again Inv-loop μ-loop
 loop-again c = let b = c .before .before .before .before in let a = b .before .before in
     let f = c .before .before .before .struct-told .given .1 .0 .1 in
-    let e = b .before2 .ensures in let d = b .before .if1 .left in let s = a .before .args in
-    rw (c .more .ensures, e) (climb-on (climbOf (s .index .now)) (s .start) (a .loop .w) (a .loop .inv) d _
-    (step-up (s .index .now) (s .start) (a .loop .w) (a .loop .inv) d
+    let e = b .before2 .ensures in let s = a .before .args in
+    rw (c .more .ensures, e) (climbed-on (s .index .now) (s .start) (a .loop .w) (a .loop .inv) (b .before .if1 .left)
     (rw (back64 (a .loop .w .want) f, e) at (sym (c .before .before .ends-well .ensures) ∙ c .before .if2 .left))
-    (rw e at (b .before2 .ok .1 .1 .0 .1 .1 .0 .1))))
+    (rw e at (b .before2 .ok .1 .1 .0 .1 .1 .0 .1)))
 
 returns : tie.Need-returns Inv-loop μ-loop
 returns c = let a = c .before in climbed-root (a .before .args .index .now) (a .before .args .start) (a .loop .w) (a .loop .inv) (c .if1 .taken)
@@ -60,8 +57,8 @@ returns-2 c = let b = c .before .before .before .before in let a = b .before .be
     rw (c .enter .ensures, e) (climbed-hit (a .before .args .index .now) (a .before .args .start) (a .loop .w) (a .loop .inv) (b .before .if1 .left)
     (rw (back64 (a .loop .w .want) f, e) at (sym (c .before .before .ends-well .ensures) ∙ c .before .if2 .taken)))
 
-pub climb-back-spec : {M : Type 1} → statement M
-climb-back-spec =
+pub climb-spec : {M : Type 1} → statement M
+climb-spec =
     tie.close
     (tie.spec
     Inv-loop

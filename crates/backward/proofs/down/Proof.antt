@@ -1,9 +1,9 @@
--- `descend_one` meets its contract.
+-- `down` meets its contract.
 use borrow.Author.Needs.{needs}
 use mathlib.Core.Path.{sym, _∙_}
 use Rattle.walk.proofs.Machine.{back64}
-use Rattle.backward.proofs.descend_one.Statement.{statement}
-use Rattle.backward.proofs.descend_one.Tie as tie
+use Rattle.backward.proofs.down.Statement.{statement}
+use Rattle.backward.proofs.down.Tie as tie
 
 ends-well-requires : tie.Need-ends-well-requires
 ends-well-requires c κs = search needs
@@ -31,8 +31,8 @@ returns-2 : tie.Need-returns-2
 returns-2 c = let s = c .before .before .before .before in
     c .more .ensures ∙ rw (rw (back64 (s .args .w .want) (c .before .before .before .struct-told .given .1 .0 .1)) at (sym (c .before .before .ends-well .ensures) ∙ c .before .if1 .left))
 
-pub descend-one-spec : {M : Type 1} → statement M
-descend-one-spec =
+pub down-spec : {M : Type 1} → statement M
+down-spec =
     tie.close
     (tie.spec
     ends-well-requires

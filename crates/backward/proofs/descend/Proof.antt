@@ -1,13 +1,11 @@
--- `descend_back` meets its contract: what is left of the way down gives what the whole gives.
+-- `descend` meets its contract: what is left of the way down gives what the whole gives.
 use Prim.Native.Nat.{_-_}
 use Rattle.word.proofs.Signed.{zarith}
 use Rattle.backward.specs.Steps.{descentOf}
 use Rattle.backward.proofs.Room.{Sinking, sink-start, sink-on}
-use Rattle.backward.proofs.Descent.{deeper, reached, step-down}
-use Rattle.backward.proofs.descend_back.Statement.{statement}
-use Rattle.backward.proofs.descend_back.Tie as tie
-use Rattle.backward.proofs.descend_back.Reads as reads
-use Rattle.backward.proofs.descend_back.Lts as lts
+use Rattle.backward.proofs.Sinking.{deeper, sunk-leaf, step-down}
+use Rattle.backward.proofs.descend.Statement.{statement}
+use Rattle.backward.proofs.descend.Tie as tie
 
 abbrev Inv-loop : tie.InvT-loop
 Inv-loop index l w₀ w = Sinking (descentOf index l) l w₀ w
@@ -27,25 +25,25 @@ add-read c = let a = c .before .before in omega (zarith, a .before .pre .count)
 read-requires : tie.Need-read-requires Inv-loop μ-loop
 read-requires c κs = let a = c .before .before in omega (zarith, a .before .pre .inside, a .before .pre .count, a .loop .inv .count)
 
-descend-one-requires : tie.Need-descend-one-requires Inv-loop μ-loop
-descend-one-requires c κs = let a = c .before .before .before in
+down-requires : tie.Need-down-requires Inv-loop μ-loop
+down-requires c κs = let a = c .before .before .before in
     omega (zarith, a .loop .inv .room, a .before .pre .count, a .before .pre .room)
 
 loop-less : tie.Need-loop-less Inv-loop μ-loop
 loop-less c = let a = c .before .before .before .before in
-    omega (zarith, deeper (a .loop .w) (c .descend-one .result) (c .before .read .result) (a .loop .inv .above) (c .descend-one .ensures), c .before .before .if1 .taken)
+    omega (zarith, deeper (a .loop .w) (c .down .result) (c .before .read .result) (a .loop .inv .above) (c .down .ensures), c .before .before .if1 .taken)
 
 loop-again : tie.Need-loop-again Inv-loop μ-loop
 loop-again c = let a = c .before .before .before .before in let s = a .before .args in let e = c .before .read .ensures in let b = c .before .before .if1 .taken in
-    sink-on (descentOf (s .index .now) (s .l)) (s .l) (s .start) (a .loop .w) (a .loop .inv) b (c .descend-one .result)
-    (step-down (s .index .now) (s .l) (s .start) (a .loop .w) (a .loop .inv) b (c .descend-one .result) (rw e at (c .descend-one .ensures))
+    sink-on (descentOf (s .index .now) (s .l)) (s .l) (s .start) (a .loop .w) (a .loop .inv) b (c .down .result)
+    (step-down (s .index .now) (s .l) (a .loop .w) b (c .down .result) (rw e at (c .down .ensures))
     (rw e at (c .before .read .ok .1 .1 .0 .1 .1 .0 .1)))
 
 returns : tie.Need-returns Inv-loop μ-loop
-returns c = let a = c .before .before in reached (a .before .args .index .now) (a .before .args .l) (a .before .args .start) (a .loop .w) (a .loop .inv) (c .if1 .left)
+returns c = let a = c .before .before in sunk-leaf (a .before .args .index .now) (a .before .args .l) (a .before .args .start) (a .loop .w) (a .loop .inv) (c .if1 .left)
 
-pub descend-back-spec : {M : Type 1} → statement M
-descend-back-spec =
+pub descend-spec : {M : Type 1} → statement M
+descend-spec =
     tie.close
     (tie.spec
     Inv-loop
@@ -54,7 +52,7 @@ descend-back-spec =
     mul-read
     add-read
     read-requires
-    descend-one-requires
+    down-requires
     loop-less
     loop-again
     returns)
