@@ -7,19 +7,16 @@ use mathlib.Core.Option.{none, some}
 use Prim.Native.Nat.{ℕ, suc, _+_, _-_, _≤_, _<_, min}
 use lib.ListN.{take, drop, take-append-drop}
 use lib.IntN.{ℤ, pos, _+ℤ_, _-ℤ_, natAbs}
-use lib.Signed.{mag}
 use Rattle.word.specs.Signed.{eqZ}
 use Rattle.word.specs.Bits.{bit, bits}
 use Rattle.word.proofs.Bits.{take-bits, drop-bits}
-use Rattle.word.proofs.Signed.{zarith, -law, +law, eqZ-refl, →eqZ, →neqZ, abs-law, parts}
+use Rattle.word.proofs.Signed.{zarith, -law, +law, eqZ-refl, →eqZ, →neqZ}
 use Rattle.summary.specs.Stretch.{step, depthOf}
-use Rattle.summary.proofs.Meaning.{step-small, depth-append}
+use Rattle.summary.proofs.Meaning.{depth-append}
 use Rattle.walk.specs.declared.Scan.the-variants.{Met, Left}
 use Rattle.walk.specs.Scan.{orElse, final}
-use Rattle.walk.proofs.Amounts.{depth-nil, one-there}
+use Rattle.walk.proofs.Amounts.{depth-nil, one-there, more-near, step-abs}
 use Rattle.walk.proofs.Final.{final-split, final-cons, final-nil}
-use Rattle.walk.proofs.Signed64.{wb}
-use Rattle.walk.proofs.Machine.{back64}
 use Rattle.backward.specs.Steps.{scanDown}
 
 pub scan-end : (bytes : List ℕ) (i n : ℕ) (t : ℤ) → n ≡ 0 → scanDown bytes i n t ≡ Left t
@@ -59,20 +56,15 @@ module _ (bytes : List ℕ) (i m n : ℕ) (t : ℤ) (e : n ≡ suc m) where
   unfolding scanDown
   scan-next h = rw (e, turn false h, one-more)
 
-pub step-near : (t : ℤ) (b : Bool) (m : ℕ) → natAbs t ≤ m → natAbs (t +ℤ step b) ≤ suc m
-step-near t b m h = omega (zarith, abs-law t, abs-law (t +ℤ step b), parts (t +ℤ step b), +law t (step b), step-small b)
+-- one turn of the loop, at boundary i: `u` is wanted from boundary i - 1
+module _ (bytes : List ℕ) (from i : ℕ) (t : ℤ) (l : from < i) where
+  pub turn-met : eqZ t (pos 0) ≡ true → Met i ≡ scanDown bytes from (i - from) t
+  turn-met z = ap Met (let e : i ≡ from + (i - from) = omega zarith in e) ∙ sym (scan-met bytes from (i - from - 1) (i - from) t (omega zarith) z)
 
--- one turn of the loop, at boundary i: `r` is what is wanted from boundary i - 1
-module _ (bytes : List ℕ) (from i : ℕ) (t r : ℤ) (b : Bool) (l : from < i) (o : mag r < 9223372036854775808) (p : b ≡ bit bytes (i - 1)) (q : r ≡ t +ℤ step b) where
-  after : wb r ≡ t +ℤ step (bit bytes (i - 1))
-  after = back64 r o ∙ q ∙ ap (λ (b : Bool). t +ℤ step b) p
+  module _ (u : ℤ) (after : u ≡ t +ℤ step (bit bytes (i - 1))) where
+    pub turn-next : eqZ t (pos 0) ≡ false → scanDown bytes from (i - 1 - from) u ≡ scanDown bytes from (i - from) t
+    turn-next z = let e : i - 1 ≡ from + (i - 1 - from) = omega zarith in
+        rw after (ap (λ (j : ℕ). scanDown bytes from (i - 1 - from) (t +ℤ step (bit bytes j))) e ∙ sym (scan-next bytes from (i - 1 - from) (i - from) t (omega zarith) z))
 
-  pub turn-next : eqZ t (pos 0) ≡ false → scanDown bytes from (i - 1 - from) (wb r) ≡ scanDown bytes from (i - from) t
-  turn-next z = let e : i - 1 ≡ from + (i - 1 - from) = omega zarith in
-      rw after (ap (λ (j : ℕ). scanDown bytes from (i - 1 - from) (t +ℤ step (bit bytes j))) e ∙ sym (scan-next bytes from (i - 1 - from) (i - from) t (omega zarith) z))
-
-  pub turn-near : (m : ℕ) → natAbs t ≤ m → natAbs (wb r) ≤ suc m
-  turn-near m h = rw after (step-near t (bit bytes (i - 1)) m h)
-
-pub turn-met : (bytes : List ℕ) (from i : ℕ) (t : ℤ) → from < i → eqZ t (pos 0) ≡ true → Met i ≡ scanDown bytes from (i - from) t
-turn-met bytes from i t l z = ap Met (let e : i ≡ from + (i - from) = omega zarith in e) ∙ sym (scan-met bytes from (i - from - 1) (i - from) t (omega zarith) z)
+    pub turn-near : (m n : ℕ) → natAbs t ≤ m → m + 1 ≡ n → natAbs u ≤ n
+    turn-near m n h e = rw (after, ← e) (more-near t (step (bit bytes (i - 1))) m 1 h (step-abs (bit bytes (i - 1))))

@@ -3,18 +3,18 @@
 ghost use mathlib.Core.Path.{_≡_};
 ghost use mathlib.Core.Bool.{cond};
 ghost use mathlib.Core.Option.{none, some};
-ghost use Prim.Native.Nat.{_-_, _*_, _<_, _≤_};
+ghost use Prim.Native.Nat.{_-_, _*_, _≤_};
 ghost use lib.ListN.{length};
-ghost use lib.IntN.{pos, natAbs, _+ℤ_};
+ghost use lib.IntN.{pos, natAbs};
 ghost use Rattle.word.specs.Signed.{eqZ};
 ghost use Rattle.word.specs.Bits.{word};
-ghost use Rattle.summary.specs.Stretch.{step};
 ghost use Rattle.index.specs.Shape.{height};
+ghost use Rattle.index.specs.Lent.{entryAt};
 ghost use Rattle.walk.specs.Walk.{said};
 ghost use Rattle.walk.specs.Lent.{Lent};
 ghost use Rattle.walk.specs.Backward.{hitBack, leafBack, backward};
-ghost use Rattle.backward.specs.Steps.{scanDown, beforeOf, downOf, climbOf, descentOf, beyond};
-ghost use Rattle.backward.specs.Room.{Ready, Footing, Climbed, Hold, Sunk};
+ghost use Rattle.backward.specs.Steps.{scanDown, downOf, climbOf, descentOf, beyond};
+ghost use Rattle.walk.specs.Room.{Ready, Footing, Climbed, Hold, Sunk};
 use summary::Summary;
 use walk::Climb;
 use walk::Found;
@@ -22,17 +22,9 @@ use walk::Scan;
 use walk::Seen;
 use walk::Walk;
 
-// The amount wanted from one bit earlier.
-fn earlier(want: i64, bit: bool) -> i64
-    requires { ⌜ natAbs want ≤ 2305843009213693952 ⌝ }
-    ensures { λ r. ⌜ r ≡ want +ℤ step bit ⌝ }
-{
-    if bit { want + 1 } else { want - 1 }
-}
-
 // The last boundary up to `to`, and after `from`, with the amount wanted from `to`; or the amount wanted from `from`.
 fn scan_down(bytes: &[u8], from: usize, to: usize, want: i64) -> Scan
-    requires { ⌜ (from ≤ to) × (to ≤ 8 * length (now bytes)) × (to ≤ 2097152) × (natAbs want ≤ 1152921504606846976) ⌝ }
+    requires { ⌜ (to ≤ 8 * length (now bytes)) × (to ≤ 2097152) × (natAbs want ≤ 1152921504606846976) ⌝ }
     ensures { λ r. ⌜ r ≡ scanDown (now (bytes .entry)) from (to - from) want ⌝ }
 {
     let mut t = want;
@@ -42,7 +34,7 @@ fn scan_down(bytes: &[u8], from: usize, to: usize, want: i64) -> Scan
             return Scan::Met(i);
         }
         let b = word::opens(bytes, i - 1);
-        t = earlier(t, b);
+        t = walk::plus(t, walk::step(b));
         i -= 1;
     }
     Scan::Left(t)
@@ -57,22 +49,10 @@ fn ends_well(s: Summary, want: i64) -> bool
     walk::holds(s, u)
 }
 
-// "at an odd entry read k-1"; at an even one nothing is read.
-fn before(index: &[i32], k: usize, reads: u32) -> Seen
-    requires { ⌜ (0 < k) × (4 * k ≤ length (now index)) × (reads ≤ 1073741824) ⌝ }
-    ensures { λ r. ⌜ r ≡ beforeOf (now (index .entry)) k reads ⌝ }
-{
-    if k % 2 == 0 {
-        walk::unread(reads)
-    } else {
-        walk::read(index, k - 1, reads)
-    }
-}
-
-// The climb, from the entry where the walk stands.
+// "enter it if least ≤ t+total ≤ greatest, else add its total to t."
 fn climb(index: &[i32], start: Walk) -> Climb
     requires { ⌜ Footing (now index) start ⌝ }
-    ensures { λ r. ⌜ Climbed (climbOf (now (index .entry))) start r ⌝ }
+    ensures { λ r. ⌜ Climbed (climbOf (entryAt (now (index .entry)))) start r ⌝ }
 {
     let mut w = start;
     let found = loop {
@@ -80,7 +60,7 @@ fn climb(index: &[i32], start: Walk) -> Climb
         if k == 1 {
             break Climb::Top(w);
         }
-        let s = before(index, k, w.reads);
+        let s = walk::before(index, k, w.reads);
         if ends_well(s.summary, w.want) {
             break Climb::Enter(w.enter(k - 1, s));
         }
@@ -105,7 +85,7 @@ fn down(w: Walk, right: Seen) -> Walk
 // "Going down, read the right child first, by the same rule.", as far as a leaf.
 fn descend(index: &[i32], l: usize, start: Walk) -> Walk
     requires { ⌜ Hold (now index) l start ⌝ }
-    ensures { λ r. ⌜ Sunk (descentOf (now (index .entry)) l) l start r ⌝ }
+    ensures { λ r. ⌜ Sunk (descentOf (entryAt (now (index .entry))) l) l start r ⌝ }
 {
     let mut w = start;
     while w.entry < l {
@@ -123,17 +103,9 @@ fn leaf(bytes: &[u8], m: usize, l: usize, w: Walk) -> Found
 {
     let k = w.entry;
     let b = k - l;
-    let from = 256 * b;
-    let n = w.reads;
-    if m <= from {
-        return Found::Nothing(n);
-    }
     let to = walk::end_of(m, b);
-    let s = scan_down(bytes, from, to, w.want);
-    match s {
-        Scan::Met(q) => Found::At(q, n),
-        Scan::Left(_) => Found::Nothing(n),
-    }
+    let s = scan_down(bytes, 256 * b, to, w.want);
+    walk::met(s, w.reads)
 }
 
 // "At entry 1 the answer is boundary 0 if t is 0, else none."
@@ -174,7 +146,7 @@ pub fn backward(bytes: &[u8], m: usize, index: &[i32], l: usize, p: usize, want:
     let last = p - 1;
     let b = last / 256;
     let bit = word::opens(bytes, last);
-    let t = earlier(want, bit);
+    let t = walk::plus(want, walk::step(bit));
     let s = scan_down(bytes, 256 * b, last, t);
     match s {
         Scan::Met(q) => Found::At(q, 0),

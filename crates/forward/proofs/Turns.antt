@@ -5,16 +5,12 @@ use mathlib.Core.List.{List}
 use Prim.Native.Nat.{ℕ, suc, _+_, _-_, _≤_, _<_}
 use native.Mathlib.Numerals.{add-one}
 use lib.IntN.{ℤ, pos, _-ℤ_, natAbs}
-use lib.Signed.{mag}
 use Rattle.word.specs.Signed.{eqZ}
 use Rattle.word.specs.Bits.{bit, bits}
-use Rattle.word.proofs.Signed.{zarith, -law, →eqZ, →neqZ, abs-law, parts}
+use Rattle.word.proofs.Signed.{zarith, -law, →eqZ, →neqZ}
 use Rattle.summary.specs.Stretch.{step}
-use Rattle.summary.proofs.Meaning.{step-small}
 use Rattle.walk.specs.declared.Scan.the-variants.{Met, Left}
-use Rattle.walk.proofs.Signed64.{wb}
-use Rattle.walk.proofs.Machine.{back64}
-use Rattle.walk.proofs.Amounts.{depth-cons, depth-nil, none-off, off-twice}
+use Rattle.walk.proofs.Amounts.{depth-cons, depth-nil, none-off, off-twice, less-near, step-abs}
 use Rattle.walk.proofs.First.{first-cons, first-nil}
 use Rattle.forward.specs.Steps.{scanOf}
 
@@ -28,30 +24,21 @@ met-is b t true e = →eqZ (step b) t (omega (zarith, -law t (step b)))
 met-is b t false e = →neqZ (step b) t (omega (zarith, -law t (step b)))
 
 module _ (bytes : List ℕ) (i m n : ℕ) (t : ℤ) (e : n ≡ suc m) where
-  pub scan-met : eqZ (t -ℤ step (bit bytes i)) (pos 0) ≡ true → scanOf bytes i n t ≡ Met (suc i)
+  scan-met : eqZ (t -ℤ step (bit bytes i)) (pos 0) ≡ true → scanOf bytes i n t ≡ Met (suc i)
   unfolding scanOf
   scan-met z = rw (e, first-cons i (bit bytes i) (bits bytes (suc i) m) t, met-is (bit bytes i) t true z)
 
-  pub scan-next : eqZ (t -ℤ step (bit bytes i)) (pos 0) ≡ false → scanOf bytes i n t ≡ scanOf bytes (suc i) m (t -ℤ step (bit bytes i))
+  scan-next : eqZ (t -ℤ step (bit bytes i)) (pos 0) ≡ false → scanOf bytes i n t ≡ scanOf bytes (suc i) m (t -ℤ step (bit bytes i))
   unfolding scanOf
   scan-next z = rw (e, first-cons i (bit bytes i) (bits bytes (suc i) m) t, met-is (bit bytes i) t false z, depth-cons (bit bytes i) (bits bytes (suc i) m), off-twice)
 
-pub step-near : (t : ℤ) (b : Bool) (m : ℕ) → natAbs t ≤ m → natAbs (t -ℤ step b) ≤ suc m
-step-near t b m h = omega (zarith, abs-law t, abs-law (t -ℤ step b), parts (t -ℤ step b), -law t (step b), step-small b)
+-- one turn of the code's loop: `u` is wanted after bit i
+module _ (bytes : List ℕ) (to i : ℕ) (t u : ℤ) (l : i < to) (after : u ≡ t -ℤ step (bit bytes i)) where
+  pub turn-met : eqZ u (pos 0) ≡ true → Met (i + 1) ≡ scanOf bytes i (to - i) t
+  turn-met z = ap Met (add-one i) ∙ sym (scan-met bytes i (to - (i + 1)) (to - i) t (omega zarith) (rw after at z))
 
--- one turn of the code's loop: `r` is what is wanted after bit i
-module _ (bytes : List ℕ) (to i : ℕ) (t r : ℤ) (b : Bool) (l : i < to) (o : mag r < 9223372036854775808) (p : b ≡ bit bytes i) (q : r ≡ t -ℤ step b) where
-  one-less : to - i ≡ suc (to - (i + 1))
-  one-less = omega zarith
-
-  after : wb r ≡ t -ℤ step (bit bytes i)
-  after = back64 r o ∙ q ∙ ap (λ (b : Bool). t -ℤ step b) p
-
-  pub turn-met : eqZ (wb r) (pos 0) ≡ true → Met (i + 1) ≡ scanOf bytes i (to - i) t
-  turn-met z = ap Met (add-one i) ∙ sym (scan-met bytes i (to - (i + 1)) (to - i) t one-less (rw after at z))
-
-  pub turn-next : eqZ (wb r) (pos 0) ≡ false → scanOf bytes (i + 1) (to - (i + 1)) (wb r) ≡ scanOf bytes i (to - i) t
+  pub turn-next : eqZ u (pos 0) ≡ false → scanOf bytes (i + 1) (to - (i + 1)) u ≡ scanOf bytes i (to - i) t
   turn-next z = rw (after, add-one i) (sym (scan-next bytes i (to - suc i) (to - i) t (omega zarith) (rw after at z)))
 
-  pub turn-near : (m : ℕ) → natAbs t ≤ m → natAbs (wb r) ≤ suc m
-  turn-near m h = rw after (step-near t (bit bytes i) m h)
+  pub turn-near : (m n : ℕ) → natAbs t ≤ m → m + 1 ≡ n → natAbs u ≤ n
+  turn-near m n h e = rw (after, ← e) (less-near t (step (bit bytes i)) m 1 h (step-abs (bit bytes i)))

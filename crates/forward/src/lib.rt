@@ -1,41 +1,33 @@
 // The forward walk: from boundary p by t, the first q > p with D(q) = D(p)+t, and how many entries were read.
 // It scans the block where it starts, climbs, goes down, and scans the leaf that it reaches: no bit of any other block.
 ghost use mathlib.Core.Path.{_≡_};
-ghost use Prim.Native.Nat.{_+_, _-_, _*_, _/_, _<_, _≤_};
+ghost use Prim.Native.Nat.{_-_, _*_, _<_, _≤_};
 ghost use lib.ListN.{length};
-ghost use lib.IntN.{natAbs, _-ℤ_};
+ghost use lib.IntN.{natAbs};
 ghost use Rattle.word.specs.Bits.{word};
-ghost use Rattle.summary.specs.Stretch.{step};
 ghost use Rattle.index.specs.Shape.{height};
+ghost use Rattle.index.specs.Lent.{entryAt};
 ghost use Rattle.walk.specs.Walk.{said};
 ghost use Rattle.walk.specs.Forward.{leafScan, forward};
 ghost use Rattle.walk.specs.Lent.{Lent};
 ghost use Rattle.walk.specs.Room.{Ready, Footing, Climbed, Hold, Sunk};
-ghost use Rattle.forward.specs.Steps.{scanOf, besideOf, downOf, climbOf, descentOf, beyond};
+ghost use Rattle.forward.specs.Steps.{scanOf, downOf, climbOf, descentOf, beyond};
 use walk::Climb;
 use walk::Found;
 use walk::Scan;
 use walk::Seen;
 use walk::Walk;
 
-// What is wanted after one bit.
-fn less(want: i64, bit: bool) -> i64
-    requires { ⌜ natAbs want ≤ 2305843009213693952 ⌝ }
-    ensures { λ r. ⌜ r ≡ want -ℤ step bit ⌝ }
-{
-    if bit { want - 1 } else { want + 1 }
-}
-
 // The first boundary after `from`, up to `to`, whose depth from `from` is what is wanted.
 fn scan(bytes: &[u8], from: usize, to: usize, want: i64) -> Scan
-    requires { ⌜ (from ≤ to) × (to ≤ 8 * length (now bytes)) × (to ≤ 4194304) × (natAbs want ≤ 1152921504606846976) ⌝ }
+    requires { ⌜ (to ≤ 8 * length (now bytes)) × (to ≤ 4194304) × (natAbs want ≤ 1152921504606846976) ⌝ }
     ensures { λ r. ⌜ r ≡ scanOf (now (bytes .entry)) from (to - from) want ⌝ }
 {
     let mut t = want;
     let mut i = from;
     while i < to {
         let b = word::opens(bytes, i);
-        t = less(t, b);
+        t = walk::minus(t, walk::step(b));
         i += 1;
         if walk::zero(t) {
             return Scan::Met(i);
@@ -44,22 +36,10 @@ fn scan(bytes: &[u8], from: usize, to: usize, want: i64) -> Scan
     Scan::Left(t)
 }
 
-// "at an even entry k read k+1"; at an odd one nothing is read.
-fn beside(index: &[i32], k: usize, reads: u32) -> Seen
-    requires { ⌜ (8 * (k / 2) + 7 < length (now index)) × (reads ≤ 1073741824) ⌝ }
-    ensures { λ r. ⌜ r ≡ besideOf (now (index .entry)) k reads ⌝ }
-{
-    if k % 2 == 0 {
-        walk::read(index, k + 1, reads)
-    } else {
-        walk::unread(reads)
-    }
-}
-
 // "if its count isn't 0 and least ≤ t ≤ greatest, go down into it, else take its total off t; then halve k."
 fn climb(index: &[i32], start: Walk) -> Climb
     requires { ⌜ Footing (now index) start ⌝ }
-    ensures { λ r. ⌜ Climbed (climbOf (now (index .entry))) start r ⌝ }
+    ensures { λ r. ⌜ Climbed (climbOf (entryAt (now (index .entry)))) start r ⌝ }
 {
     let mut w = start;
     let found = loop {
@@ -67,7 +47,7 @@ fn climb(index: &[i32], start: Walk) -> Climb
         if k == 1 {
             break Climb::Top(w);
         }
-        let s = beside(index, k, w.reads);
+        let s = walk::after(index, k, w.reads);
         if walk::holds(s.summary, w.want) {
             break Climb::Enter(w.enter(k + 1, s));
         }
@@ -92,7 +72,7 @@ fn down(w: Walk, left: Seen) -> Walk
 // "Going down, read the left child; enter it on the same test", as far as a leaf.
 fn descend(index: &[i32], l: usize, start: Walk) -> Walk
     requires { ⌜ Hold (now index) l start ⌝ }
-    ensures { λ r. ⌜ Sunk (descentOf (now (index .entry)) l) l start r ⌝ }
+    ensures { λ r. ⌜ Sunk (descentOf (entryAt (now (index .entry))) l) l start r ⌝ }
 {
     let mut w = start;
     while w.entry < l {
@@ -110,17 +90,9 @@ fn leaf(bytes: &[u8], m: usize, l: usize, w: Walk) -> Found
 {
     let k = w.entry;
     let b = k - l;
-    let from = 256 * b;
-    let n = w.reads;
-    if m <= from {
-        return Found::Nothing(n);
-    }
     let to = walk::end_of(m, b);
-    let s = scan(bytes, from, to, w.want);
-    match s {
-        Scan::Met(q) => Found::At(q, n),
-        Scan::Left(_) => Found::Nothing(n),
-    }
+    let s = scan(bytes, 256 * b, to, w.want);
+    walk::met(s, w.reads)
 }
 
 // Past the first block: the climb, the way down, and the scan of the leaf reached. "At entry 1 there is none."

@@ -3,9 +3,8 @@
 ghost use mathlib.Core.Path.{_≡_};
 ghost use Prim.Native.Nat.{_-_, _*_, _<_, _≤_};
 ghost use lib.ListN.{length};
-ghost use lib.IntN.{natAbs, _+ℤ_};
 ghost use Rattle.word.specs.Bits.{bits, word};
-ghost use Rattle.summary.specs.Stretch.{step, depthOf};
+ghost use Rattle.summary.specs.Stretch.{depthOf};
 ghost use Rattle.index.specs.Shape.{height};
 ghost use Rattle.walk.specs.Lent.{Lent};
 ghost use Rattle.walk.specs.Prefix.{prefix};
@@ -24,27 +23,13 @@ pub struct Rise {
     pub reads: u32,
 }
 
-// The depth, one bit further.
-fn past(depth: i64, opens: bool) -> i64
-    requires { ⌜ natAbs depth ≤ 2305843009213693952 ⌝ }
-    ensures { λ r. ⌜ r ≡ depth +ℤ step opens ⌝ }
-{
-    if opens { depth + 1 } else { depth - 1 }
-}
-
 // The depth at bit `to`, from bit `from`: "scanning bits doesn't" count.
 fn depth_of(bytes: &[u8], from: usize, to: usize) -> i64
     requires { ⌜ (from ≤ to) × (to ≤ 8 * length (now bytes)) × (to ≤ 2097152) ⌝ }
     ensures { λ r. ⌜ r ≡ depthOf (bits (now (bytes .entry)) from (to - from)) ⌝ }
 {
-    let mut depth = 0i64;
-    let mut i = from;
-    while i < to {
-        let b = word::opens(bytes, i);
-        depth = past(depth, b);
-        i += 1;
-    }
-    depth
+    let s = table::stretch(bytes, from, to);
+    walk::wide(s.total)
 }
 
 impl Rise {
@@ -54,20 +39,12 @@ impl Rise {
         ensures { λ r. ⌜ Risen (now (index .entry)) self r ⌝ }
     {
         let k = self.entry;
-        if k % 2 == 0 {
-            Rise {
-                entry: k / 2,
-                depth: self.depth,
-                reads: self.reads,
-            }
-        } else {
-            let before = walk::read(index, k - 1, self.reads);
-            let s = before.summary;
-            Rise {
-                entry: k / 2,
-                depth: walk::plus(self.depth, s.total),
-                reads: before.reads,
-            }
+        let seen = walk::before(index, k, self.reads);
+        let s = seen.summary;
+        Rise {
+            entry: k / 2,
+            depth: walk::plus(self.depth, s.total),
+            reads: seen.reads,
         }
     }
 }

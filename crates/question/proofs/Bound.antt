@@ -28,8 +28,8 @@ use Rattle.question.specs.declared.Question.the-variants.{Depth, Number,
 use Rattle.question.specs.Decode.{decodeOf}
 use Rattle.question.specs.Reads.{orZero, readsOf, nearestReads, lowestReads}
 use Rattle.question.specs.Answer.{answerOf, answerTo}
-use Rattle.question.specs.Places.{IsNode}
-use Rattle.question.proofs.Sound.{Sound, decode-sound}
+use Rattle.question.specs.Places.{IsNode, Sound}
+use Rattle.question.proofs.Sound.{decode-sound}
 use Rattle.question.proofs.Answers.{ends-some}
 use Rattle.question.proofs.Children.{opens-longer}
 

@@ -47,10 +47,10 @@ module _ (bytes : List ℕ) (m a : ℕ) where
   pub closing-past : m ≤ a → 12 ≡ firstOf (closing (word bytes m) a)
   closing-past l = rw (long, le-ltb a m l)
 
-  -- b is the bit that stands at a, read at p
-  module _ (l : a < m) (p : ℕ) (b : Bool) (at : p ≡ a) (is : b ≡ bit bytes p) where
+  -- b is the bit that stands at a
+  module _ (l : a < m) (b : Bool) (is : b ≡ bit bytes a) where
     there : (d v : Bool) → b ≡ v → getD (word bytes m) a d ≡ v
-    there d v e = bit-bits bytes 0 m a d l ∙ ap (bit bytes) (let z : 0 + a ≡ p = omega arith in z) ∙ sym is ∙ e
+    there d v e = bit-bits bytes 0 m a d l ∙ ap (bit bytes) (let z : 0 + a ≡ a = omega arith in z) ∙ sym is ∙ e
 
     pub node-opens : b ≡ true → 0 ≡ firstOf (node (word bytes m) a [])
     node-opens e = rw (long, lt-ltb a m l, there false true e)

@@ -15,7 +15,7 @@ use Rattle.word.specs.Questions.{roots, children}
 use Rattle.word.proofs.Parse.{encode-forestOf}
 use Rattle.word.proofs.Signed.{zarith, +law, -law}
 use Rattle.word.proofs.Depth.{D-up, D-down, bit-in}
-use Rattle.word.proofs.Answers.{Kids, children-by}
+use Rattle.word.proofs.Answers.{Kids, forward-found, children-by}
 use Rattle.summary.specs.declared.Summary.{Summary}
 use Rattle.summary.specs.Stretch.{summaryOf}
 use Rattle.summary.proofs.Balanced.{roots-summary}
@@ -53,6 +53,14 @@ module _ (w : List Bool) (a q : ℕ) (opens : getD w a false ≡ true) (ends : F
       not-past : suc (suc a) < q → ⊥
       not-past l = ends .first (suc (suc a)) (omega arith) l
           (let d : D w (suc (suc a)) ≡ D w a +ℤ pos 0 = omega (zarith, D-up w a opens, D-down w (suc a) o, +law (D w a) (pos 0), +law (D w a) (pos 1), -law (D w (suc a)) (pos 1)) in d)
+
+-- so a node's opening is never the last bit
+pub next-inside : (w : List Bool) → isBalanced w ≡ true → (a : ℕ) → getD w a false ≡ true → suc a < length w
+next-inside w balanced a o =
+    let is = encode-forestOf w balanced in
+    let o′ = subst (λ u. getD u a false ≡ true) (sym is) o in
+    let e = forward-found (forestOf w) a o′ in
+    subst (λ u. suc a < length u) is (omega (arith, past-one (encode (forestOf w)) a _ o′ e, e .within))
 
 -- the summary of the kids' word counts its roots
 rooted : (k : Forest) → (k ≡ empty → ⊥) → P (summaryOf (encode k) .count) ≡ roots k

@@ -10,25 +10,8 @@ use lib.ListN.{length, getD}
 use Rattle.judge.specs.First.{firstOf}
 use Rattle.question.specs.declared.Question.{Question}
 use Rattle.question.specs.declared.Question.the-variants.{Depth, Number, WithNumber, Closing, Opening, Parent, Ancestor, Branch, Children, FirstChild, NextSibling, Nearest, Lowest, Holds, Refused}
-use Rattle.question.specs.Places.{IsNode, IsClosing}
+use Rattle.question.specs.Places.{IsNode, IsClosing, Sound}
 use Rattle.question.specs.Decode.{Checks, node, closing, boundaries, unless, decodeOf}
-
-abbrev pub Sound : List Bool → Question → Type 0
-Sound w (Depth a) = IsNode w a
-Sound w (Number a) = IsNode w a
-Sound w (WithNumber r) = Unit {0}
-Sound w (Closing a) = IsNode w a
-Sound w (Opening a) = IsClosing w a
-Sound w (Parent a) = IsNode w a
-Sound w (Ancestor a b) = IsNode w a
-Sound w (Branch a) = IsNode w a
-Sound w (Children a) = IsNode w a
-Sound w (FirstChild a) = IsNode w a
-Sound w (NextSibling a) = IsNode w a
-Sound w (Nearest a b) = IsNode w a × IsNode w b
-Sound w (Lowest a b) = (a ≤ b) × (b ≤ length w)
-Sound w (Holds a b) = IsNode w a × IsNode w b
-Sound w (Refused c) = Unit {0}
 
 -- a check that holds refuses, and one that fails is known to have failed
 by-check : (w : List Bool) (t : Bool) (c : ℕ) (rest : Checks) (q : Question) → (t ≡ false → Sound w (unless rest q)) → Sound w (unless ((t, suc c) ∷ rest) q)

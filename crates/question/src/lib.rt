@@ -9,20 +9,20 @@ ghost use Rattle.question.specs.Decode.{node as Spec·node, closing as S
 
 // "Each question is three unsigned 32-bit numbers: kind, a, b."
 pub enum Question {
-    Depth(u32),
-    Number(u32),
-    WithNumber(u32),
-    Closing(u32),
-    Opening(u32),
-    Parent(u32),
-    Ancestor(u32, u32),
-    Branch(u32),
-    Children(u32),
-    FirstChild(u32),
-    NextSibling(u32),
-    Nearest(u32, u32),
-    Lowest(u32, u32),
-    Holds(u32, u32),
+    Depth(usize),
+    Number(usize),
+    WithNumber(usize),
+    Closing(usize),
+    Opening(usize),
+    Parent(usize),
+    Ancestor(usize, u32),
+    Branch(usize),
+    Children(usize),
+    FirstChild(usize),
+    NextSibling(usize),
+    Nearest(usize, usize),
+    Lowest(usize, usize),
+    Holds(usize, usize),
     Refused(u32),
 }
 
@@ -33,31 +33,31 @@ pub struct Answer {
     pub reads: u32,
 }
 
-pub fn place(a: u32) -> usize
+fn place(a: u32) -> usize
     ensures { λ r. ⌜ r ≡ a ⌝ }
 {
     a as usize
 }
 
 // The number of the first check of a node that fails, or 0.
-fn node(bytes: &[u8], m: u32, a: u32) -> u32
+fn node(bytes: &[u8], m: usize, a: usize) -> u32
     requires { ⌜ m ≤ 8 * length (now bytes) ⌝ }
     ensures { λ r. ⌜ r ≡ firstOf (Spec·node (word (now (bytes .entry)) m) a []) ⌝ }
 {
     if m <= a {
         return 12;
     }
-    if word::opens(bytes, place(a)) { 0 } else { 13 }
+    if word::opens(bytes, a) { 0 } else { 13 }
 }
 
-fn closing(bytes: &[u8], m: u32, a: u32) -> u32
+fn closing(bytes: &[u8], m: usize, a: usize) -> u32
     requires { ⌜ m ≤ 8 * length (now bytes) ⌝ }
     ensures { λ r. ⌜ r ≡ firstOf (Spec·closing (word (now (bytes .entry)) m) a) ⌝ }
 {
     if m <= a {
         return 12;
     }
-    if word::opens(bytes, place(a)) { 14 } else { 0 }
+    if word::opens(bytes, a) { 14 } else { 0 }
 }
 
 fn refusing(code: u32, q: Question) -> Question
@@ -70,7 +70,7 @@ fn refusing(code: u32, q: Question) -> Question
 }
 
 // A kind that asks of one node.
-fn of_node(bytes: &[u8], m: u32, a: u32, q: Question) -> Question
+fn of_node(bytes: &[u8], m: usize, a: usize, q: Question) -> Question
     requires { ⌜ m ≤ 8 * length (now bytes) ⌝ }
     ensures { λ r. ⌜ r ≡ unless (Spec·node (word (now (bytes .entry)) m) a []) q ⌝ }
 {
@@ -78,7 +78,7 @@ fn of_node(bytes: &[u8], m: u32, a: u32, q: Question) -> Question
 }
 
 // A kind that asks of two: a wholly before b.
-fn of_nodes(bytes: &[u8], m: u32, a: u32, b: u32, q: Question) -> Question
+fn of_nodes(bytes: &[u8], m: usize, a: usize, b: usize, q: Question) -> Question
     requires { ⌜ m ≤ 8 * length (now bytes) ⌝ }
     ensures { λ r. ⌜ r ≡ unless (Spec·node (word (now (bytes .entry)) m) a (Spec·node (word (now (bytes .entry)) m) b [])) q ⌝ }
 {
@@ -89,14 +89,14 @@ fn of_nodes(bytes: &[u8], m: u32, a: u32, b: u32, q: Question) -> Question
     of_node(bytes, m, b, q)
 }
 
-fn of_closing(bytes: &[u8], m: u32, a: u32) -> Question
+fn of_closing(bytes: &[u8], m: usize, a: usize) -> Question
     requires { ⌜ m ≤ 8 * length (now bytes) ⌝ }
     ensures { λ r. ⌜ r ≡ unless (Spec·closing (word (now (bytes .entry)) m) a) (Question.Opening a) ⌝ }
 {
     refusing(closing(bytes, m, a), Question::Opening(a))
 }
 
-fn of_boundaries(bytes: &[u8], m: u32, a: u32, b: u32) -> Question
+fn of_boundaries(bytes: &[u8], m: usize, a: usize, b: usize) -> Question
     ensures { λ r. ⌜ r ≡ unless (Spec·boundaries (word (now (bytes .entry)) m) a b) (Question.Lowest a b) ⌝ }
 {
     if m < a {
@@ -112,25 +112,27 @@ fn of_boundaries(bytes: &[u8], m: u32, a: u32, b: u32) -> Question
 }
 
 // "A question checks 11 to 16 in order, but argument a wholly (12 to 14) before b."
-pub fn decode(bytes: &[u8], m: u32, kind: u32, a: u32, b: u32) -> Question
+pub fn decode(bytes: &[u8], m: usize, kind: u32, a: u32, b: u32) -> Question
     requires { ⌜ m ≤ 8 * length (now bytes) ⌝ }
     ensures { λ r. ⌜ r ≡ decodeOf (word (now (bytes .entry)) m) kind a b ⌝ }
 {
+    let p = place(a);
+    let q = place(b);
     match kind {
-        1 => of_node(bytes, m, a, Question::Depth(a)),
-        2 => of_node(bytes, m, a, Question::Number(a)),
-        3 => Question::WithNumber(a),
-        4 => of_node(bytes, m, a, Question::Closing(a)),
-        5 => of_closing(bytes, m, a),
-        6 => of_node(bytes, m, a, Question::Parent(a)),
-        7 => of_node(bytes, m, a, Question::Ancestor(a, b)),
-        8 => of_node(bytes, m, a, Question::Branch(a)),
-        9 => of_node(bytes, m, a, Question::Children(a)),
-        10 => of_node(bytes, m, a, Question::FirstChild(a)),
-        11 => of_node(bytes, m, a, Question::NextSibling(a)),
-        12 => of_nodes(bytes, m, a, b, Question::Nearest(a, b)),
-        13 => of_boundaries(bytes, m, a, b),
-        14 => of_nodes(bytes, m, a, b, Question::Holds(a, b)),
+        1 => of_node(bytes, m, p, Question::Depth(p)),
+        2 => of_node(bytes, m, p, Question::Number(p)),
+        3 => Question::WithNumber(p),
+        4 => of_node(bytes, m, p, Question::Closing(p)),
+        5 => of_closing(bytes, m, p),
+        6 => of_node(bytes, m, p, Question::Parent(p)),
+        7 => of_node(bytes, m, p, Question::Ancestor(p, b)),
+        8 => of_node(bytes, m, p, Question::Branch(p)),
+        9 => of_node(bytes, m, p, Question::Children(p)),
+        10 => of_node(bytes, m, p, Question::FirstChild(p)),
+        11 => of_node(bytes, m, p, Question::NextSibling(p)),
+        12 => of_nodes(bytes, m, p, q, Question::Nearest(p, q)),
+        13 => of_boundaries(bytes, m, p, q),
+        14 => of_nodes(bytes, m, p, q, Question::Holds(p, q)),
         _ => Question::Refused(11),
     }
 }

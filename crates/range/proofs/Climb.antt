@@ -21,13 +21,14 @@ use Rattle.index.specs.Lent.{entryAt}
 use Rattle.index.proofs.Height.{height-reaches, height-small}
 use Rattle.index.proofs.Level.{Level, even-yes, even-no, level-up, level-next, level-before, level-high}
 use Rattle.walk.specs.declared.Seen.{Seen}
-use Rattle.walk.specs.Walk.{seen}
+use Rattle.walk.specs.Beside.{afterOf, beforeOf}
 use Rattle.walk.specs.Lent.{Lent}
 use Rattle.walk.specs.Range.{rangeUp, range}
+use Rattle.walk.proofs.Beside.{after-reads, before-reads, after-same, before-same}
 use Rattle.walk.proofs.Places.{leaf-level}
+use Rattle.walk.proofs.Stretches.{between-is, ahead-is, up-to-is}
 use Rattle.range.specs.declared.Span.{Span}
-use Rattle.range.specs.Span.{span, afterOf, beforeOf, joined, Joins}
-use Rattle.range.proofs.Ends.{whole-is, ahead-is, up-to-is}
+use Rattle.range.specs.Span.{span, joined, Joins}
 use Rattle.range.proofs.Small.{Small, small-bounded, small-empty, small-join, joins-empty, small-entry}
 
 -- ---- one step of the definition
@@ -54,13 +55,8 @@ module _ (e : ℕ → Summary) (k r : ℕ) (x y : Summary) (n : ℕ) where
   unfolding rangeUp
   at-step s g p d = rw (ne-eqb (k / 2) (r / 2) d, left-is g p, right-is (afterOf e k n .reads), reads-are)
 
-pub one-more : (e : ℕ → Summary) (k n : ℕ) → afterOf e k n .reads ≤ n + 1
-one-more e k n = by-test (even k) (λ v. rw v (omega arith)) (λ v. rw v (omega arith))
-
 few : (e : ℕ → Summary) (k r n : ℕ) → beforeOf e r (afterOf e k n .reads) .reads ≤ n + 2
-few e k r n = by-test (even k)
-    (λ v. by-test (even r) (λ u. rw (v, u) (omega arith)) (λ u. rw (v, u) (omega arith)))
-    (λ v. by-test (even r) (λ u. rw (v, u) (omega arith)) (λ u. rw (v, u) (omega arith)))
+few e k r n = omega (arith, after-reads e k n, before-reads e r (afterOf e k n .reads))
 
 inside : {h f g k : ℕ} → Level h f g k → k < 2 * 2 ^ h
 inside {h} {f} {g} {k} l = omega (arith, level-high l, mul-le-mul-left (suc k) (one-le-pow g 2 (omega arith)))
@@ -85,13 +81,14 @@ module _ (bytes : List ℕ) (idx : List ℤ) (m l a b : ℕ) (lent : Lent bytes 
     -- "Within one block, scan."
     pub near : (x : Summary) → a / 256 ≡ (b - 1) / 256 → x ≡ summaryOf (bits bytes a (b - a)) → (x, 0) ≡ range (height m) (word bytes m) a b
     unfolding range
-    near x d e = rw (eq-eqb (a / 256) ((b - 1) / 256) d, whole-is bytes m a b p, e)
+    near x d e = rw (eq-eqb (a / 256) ((b - 1) / 256) d, between-is bytes m a b p, e)
 
     -- "Else scan the ends"
     module _ (x y : Summary) (d : a / 256 ≡ (b - 1) / 256 → ⊥) (e : x ≡ summaryOf (bits bytes a (256 * (a / 256 + 1) - a))) (i : y ≡ summaryOf (bits bytes (256 * ((b - 1) / 256)) (b - 256 * ((b - 1) / 256)))) where
       begins : rangeUp (entry (height m) (word bytes m)) (height m) (l + a / 256) (l + (b - 1) / 256) x y 0 ≡ range (height m) (word bytes m) a b
       unfolding range
-      begins = rw (ne-eqb (a / 256) ((b - 1) / 256) d, ahead-is bytes m a (omega arith), up-to-is bytes m b (omega arith) p, e, i, lent .leaves)
+      begins = let c : suc (b - 1) ≡ b = omega arith in
+          rw (ne-eqb (a / 256) ((b - 1) / 256) d, ahead-is bytes m a (256 * (a / 256 + 1)) (omega arith) (omega arith), up-to-is bytes m (b - 1) (omega arith), c, e, i, lent .leaves)
 
       pub kept-start : Kept bytes m a b (span (l + a / 256) (l + (b - 1) / 256) x y 0)
       kept-start = record {
@@ -123,14 +120,10 @@ module _ (bytes : List ℕ) (idx : List ℤ) (m l a b : ℕ) (lent : Lent bytes 
     -- entry 1 stands alone on its level: so there is one above
     module _ (f : ℕ) (lk : Level (height m) (suc f) (kept .g) (v .k)) (lr : Level (height m) (suc f) (kept .g) (v .r)) where
       after-own : (n : ℕ) → afterOf (entryAt idx) (v .k) n ≡ afterOf (entry (height m) (word bytes m)) (v .k) n
-      after-own n = by-test (even (v .k))
-          (λ y. rw y (ap (λ (s : Summary). seen s (n + 1)) (lent .indexed .reads (v .k + 1) (inside (level-next lk (even-yes (v .k) y))))))
-          (λ y. rw y)
+      after-own n = after-same (entryAt idx) (v .k) n (entry (height m) (word bytes m)) (λ y. lent .indexed .reads (v .k + 1) (inside (level-next lk (even-yes (v .k) y))))
 
       before-own : (n : ℕ) → beforeOf (entryAt idx) (v .r) n ≡ beforeOf (entry (height m) (word bytes m)) (v .r) n
-      before-own n = by-test (even (v .r))
-          (λ y. rw y)
-          (λ y. rw y (ap (λ (s : Summary). seen s (n + 1)) (lent .indexed .reads (v .r - 1) (inside (level-before lr (even-no (v .r) y))))))
+      before-own n = before-same (entryAt idx) (v .r) n (entry (height m) (word bytes m)) (λ y. lent .indexed .reads (v .r - 1) (inside (level-before lr (even-no (v .r) y))))
 
       joined-own : joined (entryAt idx) v ≡ joined (entry (height m) (word bytes m)) v
       joined-own = ap₂ (λ (s t : Seen). span (v .k / 2) (v .r / 2) (joinOf (v .left) (s .summary)) (joinOf (t .summary) (v .right)) (t .reads)) (after-own (v .reads))

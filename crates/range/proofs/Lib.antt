@@ -1,3 +1,2 @@
 pub mod Climb
-pub mod Ends
 pub mod Small

@@ -1,17 +1,15 @@
 -- The climb's state in code, and the walk's answer.
 -- What a step asks of the state, and what it gives, over whatever reads an entry.
-use mathlib.Core.Bool.{cond}
 use mathlib.Core.List.{List}
-use Prim.Native.Nat.{ℕ, _+_, _-_, _*_, _/_, _≤_, _<_}
+use Prim.Native.Nat.{ℕ, _+_, _*_, _/_, _≤_, _<_}
 use lib.ListN.{length}
 use lib.IntN.{ℤ}
 use Rattle.summary.specs.declared.Summary.{Summary}
 use Rattle.summary.specs.Bound.{Bounded}
-use Rattle.summary.specs.Join.{emptyOf, joinOf}
-use Rattle.index.specs.Shape.{even}
+use Rattle.summary.specs.Join.{joinOf}
 use Rattle.index.specs.Lent.{entryAt}
 use Rattle.walk.specs.declared.Seen.{Seen}
-use Rattle.walk.specs.Walk.{seen}
+use Rattle.walk.specs.Beside.{afterOf, beforeOf}
 use Rattle.range.specs.declared.Span.{Span}
 use Rattle.range.specs.declared.Ranged.{Ranged}
 
@@ -22,15 +20,7 @@ told x = (x .summary, x .reads)
 abbrev pub span : ℕ → ℕ → Summary → Summary → ℕ → Span
 span k r x y n = record { k = k; r = r; left = x; right = y; reads = n }
 
--- "read k+1 if k is even"
-abbrev pub afterOf : (ℕ → Summary) → ℕ → ℕ → Seen
-afterOf e k n = cond (even k) (seen (e (k + 1)) (n + 1)) (seen emptyOf n)
-
--- "and r-1 if r is odd"
-abbrev pub beforeOf : (ℕ → Summary) → ℕ → ℕ → Seen
-beforeOf e r n = cond (even r) (seen emptyOf n) (seen (e (r - 1)) (n + 1))
-
--- "then halve both"
+-- "read k+1 if k is even and r-1 if r is odd, then halve both."
 abbrev pub joined : (ℕ → Summary) → Span → Span
 joined e v = let s : Seen = afterOf e (v .k) (v .reads) in let t : Seen = beforeOf e (v .r) (s .reads) in
     span (v .k / 2) (v .r / 2) (joinOf (v .left) (s .summary)) (joinOf (t .summary) (v .right)) (t .reads)

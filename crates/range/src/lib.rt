@@ -1,16 +1,14 @@
 // The range walk: "Range of boundaries a+1 to b, a < b: the summary of bits a up to b." The ends are scanned, what lies between is joined
 // level by level. Entries are read by `walk::read` alone, which counts them.
 ghost use mathlib.Core.Path.{_≡_};
-ghost use Prim.Native.Nat.{_*_, _/_, _+_, _<_, _≤_};
-ghost use lib.ListN.{length};
+ghost use Prim.Native.Nat.{_<_, _≤_};
 ghost use Rattle.word.specs.Bits.{word};
 ghost use Rattle.index.specs.Shape.{height};
 ghost use Rattle.index.specs.Lent.{entryAt};
 ghost use Rattle.walk.specs.Lent.{Lent};
 ghost use Rattle.walk.specs.Range.{range};
-ghost use Rattle.range.specs.Span.{afterOf, beforeOf, Joins, joined, told};
+ghost use Rattle.range.specs.Span.{Joins, joined, told};
 use summary::Summary;
-use walk::Seen;
 
 // The summary of the bits between two boundaries, and the entries read.
 pub struct Ranged {
@@ -27,32 +25,8 @@ pub struct Span {
     pub reads: u32,
 }
 
-// "read k+1 if k is even"
-fn after(index: &[i32], k: usize, reads: u32) -> Seen
-    requires { ⌜ (8 * (k / 2) + 7 < length (now index)) × (reads ≤ 1073741824) ⌝ }
-    ensures { λ r. ⌜ r ≡ afterOf (entryAt (now (index .entry))) k reads ⌝ }
-{
-    if k % 2 == 0 {
-        walk::read(index, k + 1, reads)
-    } else {
-        walk::unread(reads)
-    }
-}
-
-// "and r-1 if r is odd"
-fn before(index: &[i32], r: usize, reads: u32) -> Seen
-    requires { ⌜ (4 * r ≤ length (now index)) × (reads ≤ 1073741824) ⌝ }
-    ensures { λ x. ⌜ x ≡ beforeOf (entryAt (now (index .entry))) r reads ⌝ }
-{
-    if r % 2 == 0 {
-        walk::unread(reads)
-    } else {
-        walk::read(index, r - 1, reads)
-    }
-}
-
 impl Span {
-    // What was read is joined to its side, "then halve both". Where nothing was read, the empty summary changes nothing.
+    // "read k+1 if k is even and r-1 if r is odd": what was read is joined to its side, "then halve both". Where nothing was read, the empty summary changes nothing.
     fn up(self, index: &[i32]) -> Span
         requires { ⌜ Joins (now index) self ⌝ }
         ensures { λ v. ⌜ v ≡ joined (entryAt (now (index .entry))) self ⌝ }
@@ -61,8 +35,8 @@ impl Span {
         let r = self.r;
         let x = self.left;
         let y = self.right;
-        let s = after(index, k, self.reads);
-        let t = before(index, r, s.reads);
+        let s = walk::after(index, k, self.reads);
+        let t = walk::before(index, r, s.reads);
         let z = t.summary;
         Span {
             k: k / 2,

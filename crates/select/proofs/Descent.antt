@@ -21,11 +21,11 @@ use Rattle.index.proofs.Height.{leaves-few, height-small}
 use Rattle.index.proofs.Level.{Level, level-left, level-right, level-high, below-leaves}
 use Rattle.walk.specs.Scan.{nth}
 use Rattle.walk.specs.Lent.{Lent}
+use Rattle.walk.proofs.Stretches.{block-is}
 use Rattle.walk.proofs.Places.{Starts, root-level, root-starts, left-starts, right-starts, stands}
 use Rattle.walk.specs.Select.{seek, openings, selectDown, leafNth, select}
 use Rattle.select.specs.declared.Sink.{Sink}
 use Rattle.select.specs.Sink.{sink, sumOf, sunk, Over}
-use Rattle.select.proofs.Leaf.{block-is}
 
 -- one step of the definition
 module _ (e : ℕ → Summary) (m g k a r n : ℕ) where

@@ -7,26 +7,20 @@ use lib.IntN.{ℤ, pos, _+ℤ_}
 use lib.Signed.{_≤ℤ_, _<ℤ_}
 use Rattle.summary.specs.declared.Summary.{Summary}
 use Rattle.word.specs.Signed.{minZ, maxZ, eqZ}
-use Rattle.word.proofs.Signed.{zarith, +law, min-law, max-law, eqZ-refl, →eqZ, →neqZ, by-test}
+use Rattle.word.proofs.Signed.{zarith, +law, min-law, eqZ-refl, →eqZ, →neqZ, by-test}
 use Rattle.summary.specs.Stretch.{step, depthOf, depths, leastOf, greatestOf, howMany, summaryOf}
 use Rattle.summary.specs.Join.{at, joined, joinOf, emptyOf}
-use Rattle.summary.proofs.Join.{at-yes, at-no, same, join-both, join-assoc, join-empty-left}
+use Rattle.summary.proofs.Join.{at-yes, at-no, min-shift, max-shift, same, join-both, join-assoc, join-empty-left}
 
 least-shift : (s x : ℤ) (l : List ℤ) → leastOf (map (λ (d : ℤ). s +ℤ d) (x ∷ l)) ≡ s +ℤ leastOf (x ∷ l)
 unfolding leastOf
 least-shift s x [] = refl
-least-shift s x (y ∷ l) = rw (least-shift s y l) (shift (leastOf (y ∷ l)))
-  where
-    shift : (m : ℤ) → minZ (s +ℤ x) (s +ℤ m) ≡ s +ℤ minZ x m
-    shift m = omega (zarith, min-law (s +ℤ x) (s +ℤ m), min-law x m, +law s x, +law s m, +law s (minZ x m))
+least-shift s x (y ∷ l) = rw (least-shift s y l) (min-shift s x (leastOf (y ∷ l)))
 
 greatest-shift : (s x : ℤ) (l : List ℤ) → greatestOf (map (λ (d : ℤ). s +ℤ d) (x ∷ l)) ≡ s +ℤ greatestOf (x ∷ l)
 unfolding greatestOf
 greatest-shift s x [] = refl
-greatest-shift s x (y ∷ l) = rw (greatest-shift s y l) (shift (greatestOf (y ∷ l)))
-  where
-    shift : (m : ℤ) → maxZ (s +ℤ x) (s +ℤ m) ≡ s +ℤ maxZ x m
-    shift m = omega (zarith, max-law (s +ℤ x) (s +ℤ m), max-law x m, +law s x, +law s m, +law s (maxZ x m))
+greatest-shift s x (y ∷ l) = rw (greatest-shift s y l) (max-shift s x (greatestOf (y ∷ l)))
 
 eq-shift : (s x m : ℤ) → eqZ (s +ℤ x) (s +ℤ m) ≡ eqZ x m
 eq-shift s x m = by-test (eqZ x m)

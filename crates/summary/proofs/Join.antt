@@ -51,34 +51,26 @@ joined-count x y h k = counted (x .least) (x .total +ℤ y .least) (x .count) (y
 pub same : {x y : Summary} → x .total ≡ y .total → x .least ≡ y .least → x .greatest ≡ y .greatest → x .count ≡ y .count → x ≡ y
 same t l g c = λ i. record { total = t i; least = l i; greatest = g i; count = c i }
 
+-- the smaller and the larger of three, in either grouping, and of two that are moved by the same depth
+module _ (a b c : ℤ) where
+  min-three : minZ (minZ a b) c ≡ minZ a (minZ b c)
+  min-three = omega (zarith, min-law a b, min-law (minZ a b) c, min-law b c, min-law a (minZ b c))
+
+  max-three : maxZ (maxZ a b) c ≡ maxZ a (maxZ b c)
+  max-three = omega (zarith, max-law a b, max-law (maxZ a b) c, max-law b c, max-law a (maxZ b c))
+
+  pub min-shift : minZ (a +ℤ b) (a +ℤ c) ≡ a +ℤ minZ b c
+  min-shift = omega (zarith, min-law (a +ℤ b) (a +ℤ c), min-law b c, +law a b, +law a c, +law a (minZ b c))
+
+  pub max-shift : maxZ (a +ℤ b) (a +ℤ c) ≡ a +ℤ maxZ b c
+  max-shift = omega (zarith, max-law (a +ℤ b) (a +ℤ c), max-law b c, +law a b, +law a c, +law a (maxZ b c))
+
 module _ (t u a b c : ℤ) where
   min-assoc : minZ (minZ a (t +ℤ b)) ((t +ℤ u) +ℤ c) ≡ minZ a (t +ℤ minZ b (u +ℤ c))
-  min-assoc = omega (
-    zarith,
-    min-law a (t +ℤ b),
-    min-law (minZ a (t +ℤ b)) ((t +ℤ u) +ℤ c),
-    min-law b (u +ℤ c),
-    min-law a (t +ℤ minZ b (u +ℤ c)),
-    +law t b,
-    +law t u,
-    +law u c,
-    +law (t +ℤ u) c,
-    +law t (minZ b (u +ℤ c)),
-  )
+  min-assoc = rw (+ℤ-assoc t u c, min-three a (t +ℤ b) (t +ℤ (u +ℤ c)), min-shift t b (u +ℤ c))
 
   max-assoc : maxZ (maxZ a (t +ℤ b)) ((t +ℤ u) +ℤ c) ≡ maxZ a (t +ℤ maxZ b (u +ℤ c))
-  max-assoc = omega (
-    zarith,
-    max-law a (t +ℤ b),
-    max-law (maxZ a (t +ℤ b)) ((t +ℤ u) +ℤ c),
-    max-law b (u +ℤ c),
-    max-law a (t +ℤ maxZ b (u +ℤ c)),
-    +law t b,
-    +law t u,
-    +law u c,
-    +law (t +ℤ u) c,
-    +law t (maxZ b (u +ℤ c)),
-  )
+  max-assoc = rw (+ℤ-assoc t u c, max-three a (t +ℤ b) (t +ℤ (u +ℤ c)), max-shift t b (u +ℤ c))
 
   -- all three counts, each at the least of all
   left-count : (l i j k : ℤ) → l ≡ minZ (minZ a (t +ℤ b)) ((t +ℤ u) +ℤ c)

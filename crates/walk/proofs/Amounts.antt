@@ -3,16 +3,52 @@
 use mathlib.Core.Path.{_≡_, refl, sym, _∙_}
 use mathlib.Core.Bool.{Bool, true, false}
 use mathlib.Core.List.{List, [], _∷_}
-use Prim.Native.Nat.{ℕ, zero, suc, _<_}
+use Prim.Native.Nat.{ℕ, zero, suc, _+_, _≤_, _<_}
 use lib.ListN.{length, take}
-use lib.IntN.{ℤ, pos, negsuc, _+ℤ_, _-ℤ_}
+use lib.IntN.{ℤ, pos, negsuc, _+ℤ_, _-ℤ_, natAbs}
+use lib.Signed.{mag}
 use Rattle.word.specs.Signed.{eqZ}
 use Rattle.word.specs.Forest.{count, D}
-use Rattle.word.proofs.Signed.{zarith, +law, -law}
+use Rattle.word.proofs.Signed.{zarith, +law, -law, abs-law, parts}
 use Rattle.summary.specs.Stretch.{step, depthOf}
+use Rattle.summary.specs.Join.{emptyOf}
+use Rattle.summary.proofs.Bounds.{depth-within, within-abs}
+use Rattle.walk.proofs.Signed64.{mag-abs}
 
 pub none-off : (t : ℤ) → t -ℤ pos 0 ≡ t
 none-off t = omega (zarith, -law t (pos 0))
+
+-- where no entry is read, nothing is taken off and nothing added
+pub empty-off : (t : ℤ) → t -ℤ emptyOf .total ≡ t
+unfolding emptyOf
+empty-off t = none-off t
+
+pub empty-on : (t : ℤ) → t +ℤ emptyOf .total ≡ t
+unfolding emptyOf
+empty-on t = omega (zarith, +law t (pos 0))
+
+-- how far an amount can move
+module _ (t a : ℤ) (m n : ℕ) (h : natAbs t ≤ m) (k : natAbs a ≤ n) where
+  pub less-near : natAbs (t -ℤ a) ≤ m + n
+  less-near = omega (zarith, -law t a, abs-law t, abs-law a, abs-law (t -ℤ a), parts (t -ℤ a))
+
+  pub more-near : natAbs (t +ℤ a) ≤ m + n
+  more-near = omega (zarith, +law t a, abs-law t, abs-law a, abs-law (t +ℤ a), parts (t +ℤ a))
+
+-- a total is below 2 ^ 31
+module _ (t a : ℤ) (o : mag a < 2147483648) where
+  pub total-off : natAbs (t -ℤ a) ≤ natAbs t + 2147483648
+  total-off = less-near t a (natAbs t) 2147483648 (omega zarith) (mag-abs a o)
+
+  pub total-on : natAbs (t +ℤ a) ≤ natAbs t + 2147483648
+  total-on = more-near t a (natAbs t) 2147483648 (omega zarith) (mag-abs a o)
+
+pub step-abs : (b : Bool) → natAbs (step b) ≤ 1
+step-abs true = omega zarith
+step-abs false = omega zarith
+
+pub depth-abs : (n : ℕ) (z : List Bool) → length z ≤ n → natAbs (depthOf z) ≤ n
+depth-abs n z h = within-abs n (depthOf z) (omega (zarith, depth-within z))
 
 pub off-twice : (t a b : ℤ) → (t -ℤ a) -ℤ b ≡ t -ℤ (a +ℤ b)
 off-twice t a b = omega (zarith, -law t a, -law (t -ℤ a) b, +law a b, -law t (a +ℤ b))

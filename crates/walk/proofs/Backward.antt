@@ -8,13 +8,13 @@ use mathlib.Core.Option.{Option, none, some}
 use Prim.Native.Nat.{ℕ, zero, suc, _+_, _-_, _*_, _/_, _%_, _^_, _≤_, _<_}
 use native.Mathlib.Omega.{arith}
 use borrow.Author.Tests.{ne-eqb}
-use lib.Dec.{leb, leb→le, le→leb}
+use borrow.Author.Tests.{le-leb, lt-leb}
 use lib.ListN.{length, take, drop, length-take}
 use lib.Seq.{take-take}
 use lib.IntN.{ℤ, pos, _+ℤ_, _-ℤ_}
 use Rattle.word.specs.Signed.{eqZ}
 use Rattle.word.specs.Forest.{D}
-use Rattle.word.proofs.Signed.{zarith, by-test, not-true, true-T, T-true, +law, -law}
+use Rattle.word.proofs.Signed.{zarith, by-test, +law, -law}
 use Rattle.summary.specs.declared.Summary.{Summary}
 use Rattle.summary.specs.Stretch.{depthOf, summaryOf}
 use Rattle.summary.proofs.Meaning.{total-is}
@@ -56,7 +56,7 @@ module _ (h : ℕ) (w : List Bool) where
   down-zero : Down 0
   unfolding descendBack
   down-zero zero f k a t n o l b = at-leaf k a t n b
-  down-zero (suc s) f k a t n o l b = rw (T-true (leb (2 ^ h) k) (le→leb (2 ^ h) k (omega (arith, level-low l)))) (at-leaf k a t n b)
+  down-zero (suc s) f k a t n o l b = rw (le-leb (2 ^ h) k (omega (arith, level-low l))) (at-leaf k a t n b)
 
   down-suc : (g : ℕ) → Down g → Down (suc g)
   unfolding descendBack
@@ -64,7 +64,7 @@ module _ (h : ℕ) (w : List Bool) where
   down-suc g ih (suc s) f k a t n o l b =
       let c : n + 1 + g ≡ n + suc g = omega arith in
       let sum : entry h w (2 * k + 1) ≡ summaryOf (stretch w g (a + 2 ^ g)) = stands h w (level-right l) (right-starts b) in
-      rw (not-true (leb (2 ^ h) k) (λ z. omega (arith, leb→le (2 ^ h) k (true-T z), below-leaves l)))
+      rw (lt-leb (2 ^ h) k (below-leaves l))
       (by-test (hitBack (entry h w (2 * k + 1)) t)
       (λ y. rw (y, ih s (suc f) (2 * k + 1) (a + 2 ^ g) t (n + 1) (omega arith) (level-right l) (right-starts b), c, enter-right w g a t _ sum y))
       (λ y. rw (y, ih s (suc f) (2 * k) a (t +ℤ entry h w (2 * k + 1) .total) (n + 1) (omega arith) (level-left l) (left-starts b), c, enter-left w g a t _ sum y)))

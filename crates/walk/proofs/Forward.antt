@@ -6,12 +6,12 @@ use mathlib.Core.Option.{Option, none, some}
 use Prim.Native.Nat.{ℕ, zero, suc, _+_, _-_, _*_, _/_, _%_, _^_, _≤_, _<_}
 use native.Mathlib.Omega.{arith}
 use borrow.Author.Tests.{ne-eqb}
-use lib.Dec.{leb, leb→le, le→leb}
+use borrow.Author.Tests.{le-leb, lt-leb}
 use lib.ListN.{length, take, drop, drop-of-length-le, length-drop}
 use lib.Seq.{drop-drop}
 use lib.IntN.{ℤ, _+ℤ_, _-ℤ_}
 use Rattle.word.specs.Forest.{D}
-use Rattle.word.proofs.Signed.{by-test, true-T, T-true, not-true, zarith, +law}
+use Rattle.word.proofs.Signed.{by-test, zarith, +law}
 use Rattle.summary.specs.declared.Summary.{Summary}
 use Rattle.summary.specs.Stretch.{depthOf, summaryOf}
 use Rattle.summary.proofs.Bounds.{depth-part}
@@ -48,7 +48,7 @@ module _ (h : ℕ) (w : List Bool) where
   down-zero : Down 0
   unfolding descend
   down-zero zero f k a t n o l b = at-leaf k a t n b
-  down-zero (suc s) f k a t n o l b = rw (T-true (leb (2 ^ h) k) (le→leb (2 ^ h) k (omega (arith, level-low l)))) (at-leaf k a t n b)
+  down-zero (suc s) f k a t n o l b = rw (le-leb (2 ^ h) k (omega (arith, level-low l))) (at-leaf k a t n b)
 
   down-suc : (g : ℕ) → Down g → Down (suc g)
   unfolding descend
@@ -56,7 +56,7 @@ module _ (h : ℕ) (w : List Bool) where
   down-suc g ih (suc s) f k a t n o l b =
       let c : n + 1 + g ≡ n + suc g = omega arith in
       let sum : entry h w (2 * k) ≡ summaryOf (stretch w g a) = stands h w (level-left l) (left-starts b) in
-      rw (not-true (leb (2 ^ h) k) (λ z. omega (arith, leb→le (2 ^ h) k (true-T z), below-leaves l)))
+      rw (lt-leb (2 ^ h) k (below-leaves l))
       (by-test (hit (entry h w (2 * k)) t)
       (λ y. rw (y, ih s (suc f) (2 * k) a t (n + 1) (omega arith) (level-left l) (left-starts b), c, enter-left w g a t _ sum y))
       (λ y. rw (y, ih s (suc f) (2 * k + 1) (a + 2 ^ g) (t -ℤ entry h w (2 * k) .total) (n + 1) (omega arith) (level-right l) (right-starts b), c, enter-right w g a t _ sum y)))

@@ -1,5 +1,7 @@
 pub mod Amounts
 pub mod Backward
+pub mod Beside
+pub mod Examples
 pub mod Final
 pub mod First
 pub mod Forward
@@ -12,3 +14,5 @@ pub mod Range
 pub mod Room
 pub mod Select
 pub mod Signed64
+pub mod Stretches
+pub mod Whole

@@ -15,8 +15,8 @@ use Rattle.summary.specs.Join.{joinOf}
 use Rattle.summary.proofs.Append.{summary-append}
 use Rattle.index.specs.Shape.{entry, even}
 use Rattle.index.proofs.Level.{Level, even-yes, even-no, level-up, level-next, level-before}
-use Rattle.walk.specs.Scan.{ahead}
-use Rattle.walk.specs.Range.{rangeUp, upTo, range}
+use Rattle.walk.specs.Scan.{ahead, upTo}
+use Rattle.walk.specs.Range.{rangeUp, range}
 use Rattle.walk.proofs.Places.{Starts, Ends, stretch, leaf-level, leaf-starts, leaf-ends, next-starts, ends-even, ends-odd, starts-even, starts-odd, stands}
 
 -- the blocks from a to c

@@ -1,16 +1,19 @@
 -- The two loops over a walk's state, whatever is done at each entry: the steps left are enough, and the numbers stay in range.
 -- `run s v` is what s steps from state v give; the invariant is that what is left of the run gives what the whole gives.
 use mathlib.Core.Path.{_≡_, refl, _∙_}
+use mathlib.Core.Bool.{Bool, cond}
 use mathlib.Core.List.{List}
 use Prim.Native.Nat.{ℕ, zero, suc, _+_, _-_, _*_, _/_, _^_, _≤_, _<_}
 use native.Mathlib.Omega.{arith}
 use native.Mathlib.Nat.{two-pow-succ, mul-le-mul-right}
 use lib.IntN.{ℤ, natAbs}
-use Rattle.index.proofs.Height.{leaves-few}
+use Rattle.word.proofs.Signed.{by-test}
+use Rattle.index.proofs.Height.{height-reaches, leaves-few}
 use Rattle.index.proofs.Level.{twice}
 use Rattle.walk.specs.declared.Walk.{Walk}
 use Rattle.walk.specs.declared.Climb.{Climb}
 use Rattle.walk.specs.declared.Climb.the-variants.{Enter, Top}
+use Rattle.walk.specs.Walk.{walk}
 use Rattle.walk.specs.Lent.{Lent}
 use Rattle.walk.specs.Room.{Ready, Footing, Near, Climbed, Hold, Sunk}
 
@@ -87,6 +90,13 @@ pub record Down (run : ℕ → Walk → Walk) (w u : Walk) : Type 0 where
   pub reads : u .reads ≤ w .reads + 1
   pub on : (s : ℕ) → run s u ≡ run (suc s) w
 
+-- into the child a with what is wanted, or past it into the child b
+pub one-down : (run : ℕ → Walk → Walk) (w u : Walk) (t : Bool) (a b : ℕ) (x : ℤ) → u ≡ cond t (walk a (w .want) (w .reads + 1)) (walk b x (w .reads + 1)) → (2 * w .entry ≤ a) × (a ≤ 2 * w .entry + 1)
+    → (2 * w .entry ≤ b) × (b ≤ 2 * w .entry + 1) → natAbs x ≤ natAbs (w .want) + 2147483648 → ((s : ℕ) → run s u ≡ run (suc s) w) → Down run w u
+one-down run w u t a b x e h k o on = by-test t
+    (λ y. record { child = rw (e, y) h; near = rw (e, y) (omega arith); reads = rw (e, y) (omega arith); on = on })
+    (λ y. record { child = rw (e, y) k; near = rw (e, y) o; reads = rw (e, y) (omega arith); on = on })
+
 module _ (run : ℕ → Walk → Walk) (l : ℕ) (v : Walk) where
   pub sink-start : 0 < v .entry → v .entry ≤ 2 * l → Sinking run l v v
   sink-start h b = record { above = h; low = b; room = omega arith; count = omega arith; left = λ n h. record { rest = n; enough = h; is = refl } }
@@ -111,6 +121,10 @@ module _ (run : ℕ → Walk → Walk) (l : ℕ) (v : Walk) where
         count = omega (arith, e .child, e .reads, c .count, c .above);
         left = λ n h. under n (c .left n h);
       }
+
+-- ---- past the block of boundary p, the walk stands at that block's leaf
+pub ready-at : (bytes : List ℕ) (idx : List ℤ) (m l p : ℕ) (t : ℤ) → Lent bytes idx m l → p < m → natAbs t ≤ 17179869184 → Ready l (walk (l + p / 256) t 0)
+ready-at bytes idx m l p t lent b near = record { leaf = omega arith; inside = omega (arith, height-reaches m, lent .leaves); want = near; reads = refl }
 
 -- ---- a walk that starts at a leaf keeps its room to the end
 module _ (bytes : List ℕ) (idx : List ℤ) (m l : ℕ) (v : Walk) (lent : Lent bytes idx m l) (ready : Ready l v) where

@@ -4,6 +4,7 @@ use mathlib.Core.Path.{_≡_}
 use Prim.Native.Nat.{suc, _+_, _≤_, _<_, max}
 use native.Mathlib.Omega.{arith}
 use lib.IntN.{ℤ, pos, negsuc, _+ℤ_, _-ℤ_, natAbs}
+use lib.Signed.{mag}
 use mir.Syntax.{w32, w64}
 use mir.Val.{SFits, toZ, ofZ}
 use mir.Facts.{toZ-ofZ}
@@ -41,5 +42,8 @@ less-fits a b h k = omega (zwide, abs-law a, abs-law b, -law a b)
 pub more-fits : (a b : ℤ) → natAbs a ≤ 2305843009213693952 → natAbs b ≤ 2147483648 → SFits w64 (a +ℤ b)
 more-fits a b h k = omega (zwide, abs-law a, abs-law b, +law a b)
 
+pub mag-abs : (z : ℤ) → mag z < 2147483648 → natAbs z ≤ 2147483648
+mag-abs z h = omega (zarith, abs-law z, mag-law z, parts z)
+
 pub fits-abs : {z : ℤ} → SFits w32 z → natAbs z ≤ 2147483648
-fits-abs {z} f = omega (zarith, abs-law z, mag-law z, parts z, f .sfits)
+fits-abs {z} f = mag-abs z (f .sfits)

@@ -2,9 +2,8 @@
 use mathlib.Core.Bool.{Bool, cond}
 use mathlib.Core.List.{List}
 use mathlib.Core.Option.{none, some}
-use Prim.Native.Nat.{ℕ, zero, suc, _+_, _-_, _*_, _/_, _%_, _^_}
+use Prim.Native.Nat.{ℕ, zero, suc, _+_, _-_, _*_, _/_, _^_}
 use lib.Dec.{eqb, leb}
-use lib.ListN.{take, drop}
 use lib.IntN.{ℤ, pos, _+ℤ_}
 use Rattle.word.specs.Signed.{eqZ}
 use Rattle.summary.specs.declared.Summary.{Summary}
@@ -14,7 +13,7 @@ use Rattle.walk.specs.declared.Walk.{Walk}
 use Rattle.walk.specs.declared.Climb.{Climb}
 use Rattle.walk.specs.declared.Climb.the-variants.{Enter, Top}
 use Rattle.walk.specs.Walk.{Reach, walk, hit}
-use Rattle.walk.specs.Scan.{final, behind, either}
+use Rattle.walk.specs.Scan.{final, behind, upTo, either}
 
 -- "enter it if least ≤ t+total ≤ greatest": t is wanted from the entry's end
 abbrev pub hitBack : Summary → ℤ → Bool
@@ -44,7 +43,7 @@ landedBack h w (Enter v) = leafBack (2 ^ h) w (descendBack (entry h w) (2 ^ h) h
 
 -- the amount wanted from the start of the block that holds bit p, where t is wanted from boundary p + 1
 abbrev pub fromStart : List Bool → ℕ → ℤ → ℤ
-fromStart w p t = t +ℤ depthOf (take (suc (p % 256)) (drop (256 * (p / 256)) w))
+fromStart w p t = t +ℤ depthOf (upTo w p)
 
 -- "For p = 0 there is none. Scan down to the first boundary after the start of block (p-1)/256, then climb, with t now the amount wanted
 -- from that start"

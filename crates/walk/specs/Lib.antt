@@ -1,4 +1,5 @@
 pub mod Backward
+pub mod Beside
 pub mod Forward
 pub mod Lent
 pub mod Prefix

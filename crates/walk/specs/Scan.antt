@@ -41,6 +41,10 @@ ahead w p = take (256 - p % 256) (drop p w)
 abbrev pub behind : List Bool → ℕ → List Bool
 behind w p = take (p % 256) (drop (256 * (p / 256)) w)
 
+-- the bits of bit p's block up to and with bit p
+abbrev pub upTo : List Bool → ℕ → List Bool
+upTo w p = take (suc (p % 256)) (drop (256 * (p / 256)) w)
+
 -- "Failing that": what the first scan found, with no read, else what comes after it
 abbrev pub either : Option ℕ → Reach → Reach
 either (some q) r = (some q, 0)
@@ -50,3 +54,7 @@ either none r = r
 abbrev pub scanned : Option ℕ → ℤ → Scan
 scanned (some q) t = Met q
 scanned none t = Left t
+
+abbrev pub reached : Scan → Option ℕ
+reached (Met q) = some q
+reached (Left t) = none

@@ -8,11 +8,16 @@ use lib.IntN.{pos, _+ℤ_}
 use Rattle.word.specs.Signed.{P}
 use Rattle.summary.specs.declared.Summary.{Summary}
 use Rattle.index.specs.Shape.{block, entry}
-use Rattle.walk.specs.declared.Seek.{Seek}
 use Rattle.walk.specs.Walk.{Reach}
 use Rattle.walk.specs.Scan.{nth}
 
--- the walk's state: the entry, the first block that it stands over, the number sought from there, and the reads
+-- where the way down ends: the entry, the first block that it stands over, the number sought from there, and the reads
+pub record Seek : Type 0 where
+  pub entry : ℕ
+  pub block : ℕ
+  pub number : ℕ
+  pub reads : ℕ
+
 abbrev pub seek : ℕ → ℕ → ℕ → ℕ → Seek
 seek k a r n = record { entry = k; block = a; number = r; reads = n }
 

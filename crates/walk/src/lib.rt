@@ -2,14 +2,17 @@
 // An entry is read, and the read counted, in one place: `read`.
 ghost use mathlib.Core.Path.{_≡_};
 ghost use mathlib.Core.Bool.{false, cond};
-ghost use Prim.Native.Nat.{_+_, _*_, _<_, _≤_, min};
+ghost use Prim.Native.Nat.{_+_, _*_, _/_, _<_, _≤_, min};
 ghost use lib.ListN.{length};
 ghost use lib.IntN.{pos, natAbs, _+ℤ_, _-ℤ_};
 ghost use lib.Signed.{leZ};
 ghost use Rattle.word.specs.Signed.{eqZ};
+ghost use Rattle.summary.specs.Stretch.{step};
 ghost use Rattle.summary.specs.Join.{emptyOf};
 ghost use Rattle.index.specs.Lent.{entryAt};
-ghost use Rattle.walk.specs.Walk.{walk, seen, hit};
+ghost use Rattle.walk.specs.Walk.{said, walk, seen, hit};
+ghost use Rattle.walk.specs.Scan.{reached};
+ghost use Rattle.walk.specs.Beside.{afterOf, beforeOf};
 use summary::Summary;
 
 // The boundary found, and the reads; or the reads alone.
@@ -37,14 +40,6 @@ pub enum Climb {
     Top(Walk),
 }
 
-// The state of select: the entry, the first block that it stands over, the number sought from there, and the reads.
-pub struct Seek {
-    pub entry: usize,
-    pub block: usize,
-    pub number: usize,
-    pub reads: u32,
-}
-
 // An entry that was read, and the reads with it.
 pub struct Seen {
     pub summary: Summary,
@@ -63,12 +58,36 @@ pub fn read(index: &[i32], k: usize, reads: u32) -> Seen
 }
 
 // Where the rule reads no entry: nothing was seen.
-pub fn unread(reads: u32) -> Seen
+fn unread(reads: u32) -> Seen
     ensures { λ r. ⌜ r ≡ seen emptyOf reads ⌝ }
 {
     Seen {
         summary: summary::empty(),
         reads: reads,
+    }
+}
+
+// "at an even entry k read k+1"
+pub fn after(index: &[i32], k: usize, reads: u32) -> Seen
+    requires { ⌜ (8 * (k / 2) + 7 < length (now index)) × (reads ≤ 1073741824) ⌝ }
+    ensures { λ r. ⌜ r ≡ afterOf (entryAt (now (index .entry))) k reads ⌝ }
+{
+    if k % 2 == 0 {
+        read(index, k + 1, reads)
+    } else {
+        unread(reads)
+    }
+}
+
+// "at an odd entry read k-1"
+pub fn before(index: &[i32], k: usize, reads: u32) -> Seen
+    requires { ⌜ (4 * k ≤ length (now index)) × (reads ≤ 1073741824) ⌝ }
+    ensures { λ r. ⌜ r ≡ beforeOf (entryAt (now (index .entry))) k reads ⌝ }
+{
+    if k % 2 == 1 {
+        read(index, k - 1, reads)
+    } else {
+        unread(reads)
     }
 }
 
@@ -108,6 +127,13 @@ pub fn holds(s: Summary, want: i64) -> bool
     let l = wide(s.least);
     let g = wide(s.greatest);
     if none(c) { false } else { between(l, g, want) }
+}
+
+// What one bit adds to the depth.
+pub fn step(opens: bool) -> i32
+    ensures { λ r. ⌜ r ≡ step opens ⌝ }
+{
+    if opens { 1 } else { -1 }
 }
 
 pub fn minus(want: i64, total: i32) -> i64
@@ -160,6 +186,16 @@ impl Walk {
             want: plus(self.want, s.total),
             reads: seen.reads,
         }
+    }
+}
+
+// What a scan met, if anything, and the reads.
+pub fn met(s: Scan, reads: u32) -> Found
+    ensures { λ r. ⌜ said r ≡ (reached s, reads) ⌝ }
+{
+    match s {
+        Scan::Met(q) => Found::At(q, reads),
+        Scan::Left(_) => Found::Nothing(reads),
     }
 }
 

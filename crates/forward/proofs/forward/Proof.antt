@@ -13,7 +13,6 @@ end-of-requires c κs = search needs
 
 scan-requires : tie.Need-scan-requires
 scan-requires c κs = let s = c .before .before in (
-  omega (zarith, c .end-of .ensures, s .pre .1),
   omega (zarith, c .end-of .ensures, s .pre .0 .enough),
   omega (zarith, c .end-of .ensures, s .pre .0 .small),
   rw (toZ-ofZ (s .fits .want)) (omega (zarith, s .pre .2)),

@@ -1,30 +1,36 @@
 -- `scan` meets its contract.
-use mathlib.Core.Path.{_≡_, refl, sym, _∙_}
-use Prim.Native.Nat.{_+_, _-_, _≤_, _<_, suc}
-use lib.IntN.{natAbs}
+use mathlib.Core.Path.{_≡_, refl, sym, ap, _∙_}
+use Prim.Native.Nat.{_+_, _-_, _≤_}
+use lib.IntN.{_-ℤ_, natAbs}
 use mir.Syntax.{w64}
 use mir.Val.{toZ}
 use mir.Facts.{toZ-ofZ}
+use Rattle.word.specs.Bits.{bit}
 use Rattle.word.proofs.Signed.{zarith}
+use Rattle.summary.specs.Stretch.{step}
+use Rattle.walk.proofs.Machine.{by-step}
 use Rattle.forward.specs.Steps.{scanOf}
 use Rattle.forward.proofs.Turns.{scan-end, turn-met, turn-next, turn-near}
 use Rattle.forward.proofs.scan.Statement.{statement}
 use Rattle.forward.proofs.scan.Tie as tie
 
 abbrev Inv-loop : tie.InvT-loop
-Inv-loop bytes from to want t₀ i₀ t i = (from ≤ i) × (i ≤ to) × (natAbs (toZ w64 t) ≤ 1152921504606846976 + (i - from)) × (scanOf bytes i (to - i) (toZ w64 t) ≡ scanOf bytes from (to - from) (toZ w64 want))
+Inv-loop bytes from to want t₀ i₀ t i = (from ≤ i) × (natAbs (toZ w64 t) ≤ 1152921504606846976 + (i - from)) × (scanOf bytes i (to - i) (toZ w64 t) ≡ scanOf bytes from (to - from) (toZ w64 want))
 
 abbrev μ-loop : tie.MeasureT-loop
 μ-loop bytes from to want t₀ i₀ t i = to - i
 
 loop-holds : tie.Need-loop-holds Inv-loop μ-loop
-loop-holds c = let s = c .before in (omega zarith, omega zarith, rw (toZ-ofZ (s .fits .want)) (omega zarith), refl)
+loop-holds c = let s = c .before in (omega zarith, rw (toZ-ofZ (s .fits .want)) (omega zarith), refl)
 
 opens-requires : tie.Need-opens-requires Inv-loop μ-loop
 opens-requires c κs = omega zarith
 
-less-requires : tie.Need-less-requires Inv-loop μ-loop
-less-requires c κs = omega zarith
+step-requires : tie.Need-step-requires Inv-loop μ-loop
+step-requires c κs = tt
+
+minus-requires : tie.Need-minus-requires Inv-loop μ-loop
+minus-requires c κs = omega zarith
 
 add-i : tie.Need-add-i Inv-loop μ-loop
 add-i c = omega zarith
@@ -33,29 +39,25 @@ zero-requires : tie.Need-zero-requires Inv-loop μ-loop
 zero-requires c κs = tt
 
 returns : tie.Need-returns Inv-loop μ-loop
-returns c = let a = c .before .before .before .before .before in let s = a .before .before in
-    turn-met (s .args .bytes .now) (s .args .to) (a .loop .i) (toZ w64 (a .loop .t)) (c .before .before .less .result) (c .before .before .before .opens .result)
-    (omega zarith) (c .before .before .less .ok) (c .before .before .before .opens .ensures) (c .before .before .less .ensures) (sym (c .before .zero .ensures) ∙ c .if1 .taken)
-    ∙ rw (toZ-ofZ (s .fits .want)) at (a .loop .inv .3)
+returns c = let d = c .before .before in let e = d .before in let o = e .before in let a = o .before .before in let s = a .before .before in
+    let u = by-step _-ℤ_ (d .minus .result) (toZ w64 (a .loop .t)) (e .step .result) (bit (s .args .bytes .now) (a .loop .i)) (d .minus .ok) (e .step .ok) (d .minus .ensures) (e .step .ensures ∙ ap step (o .opens .ensures)) in
+    turn-met (s .args .bytes .now) (s .args .to) (a .loop .i) (toZ w64 (a .loop .t)) _ (omega zarith) u (sym (c .before .zero .ensures) ∙ c .if1 .taken)
+    ∙ rw (toZ-ofZ (s .fits .want)) at (a .loop .inv .2)
 
 loop-less : tie.Need-loop-less Inv-loop μ-loop
 loop-less c = omega zarith
 
 loop-again : tie.Need-loop-again Inv-loop μ-loop
-loop-again c = let a = c .before .before .before .before .before in let s = a .before .before in
-    let l : a .loop .i < s .args .to = omega zarith in
-    let m : suc (1152921504606846976 + (a .loop .i - s .args .from)) ≡ 1152921504606846976 + (a .loop .i + 1 - s .args .from) = omega zarith in (
+loop-again c = let d = c .before .before in let e = d .before in let o = e .before in let a = o .before .before in let s = a .before .before in
+    let u = by-step _-ℤ_ (d .minus .result) (toZ w64 (a .loop .t)) (e .step .result) (bit (s .args .bytes .now) (a .loop .i)) (d .minus .ok) (e .step .ok) (d .minus .ensures) (e .step .ensures ∙ ap step (o .opens .ensures)) in (
       omega zarith,
-      omega zarith,
-      rw (← m) (turn-near (s .args .bytes .now) (s .args .to) (a .loop .i) (toZ w64 (a .loop .t)) (c .before .before .less .result) (c .before .before .before .opens .result)
-          l (c .before .before .less .ok) (c .before .before .before .opens .ensures) (c .before .before .less .ensures) _ (a .loop .inv .2)),
-      turn-next (s .args .bytes .now) (s .args .to) (a .loop .i) (toZ w64 (a .loop .t)) (c .before .before .less .result) (c .before .before .before .opens .result)
-          l (c .before .before .less .ok) (c .before .before .before .opens .ensures) (c .before .before .less .ensures) (sym (c .before .zero .ensures) ∙ c .if1 .left) ∙ a .loop .inv .3,
+      turn-near (s .args .bytes .now) (s .args .to) (a .loop .i) (toZ w64 (a .loop .t)) _ (omega zarith) u _ _ (a .loop .inv .1) (omega zarith),
+      turn-next (s .args .bytes .now) (s .args .to) (a .loop .i) (toZ w64 (a .loop .t)) _ (omega zarith) u (sym (c .before .zero .ensures) ∙ c .if1 .left) ∙ a .loop .inv .2,
     )
 
 returns-2 : tie.Need-returns-2 Inv-loop μ-loop
 returns-2 c = let a = c .before in let s = a .before .before in
-    sym (scan-end (s .args .bytes .now) (a .loop .i) (s .args .to - a .loop .i) (toZ w64 (a .loop .t)) (omega zarith)) ∙ rw (toZ-ofZ (s .fits .want)) at (a .loop .inv .3)
+    sym (scan-end (s .args .bytes .now) (a .loop .i) (s .args .to - a .loop .i) (toZ w64 (a .loop .t)) (omega zarith)) ∙ rw (toZ-ofZ (s .fits .want)) at (a .loop .inv .2)
 
 pub scan-spec : {M : Type 1} → statement M
 scan-spec =
@@ -65,7 +67,8 @@ scan-spec =
     μ-loop
     loop-holds
     opens-requires
-    less-requires
+    step-requires
+    minus-requires
     add-i
     zero-requires
     returns

@@ -1,62 +1,24 @@
 -- `depth_of` meets its contract.
-use mathlib.Core.Path.{_≡_}
-use Prim.Native.Nat.{_+_, _-_, _≤_, suc}
-use mir.Syntax.{w64}
-use mir.Val.{toZ}
-use lib.IntN.{natAbs}
+use borrow.Author.Needs.{needs}
+use mathlib.Core.Path.{ap, _∙_}
+use Prim.Native.Nat.{_-_}
 use Rattle.word.specs.Bits.{bits}
-use Rattle.word.proofs.Signed.{zarith}
-use Rattle.summary.specs.Stretch.{depthOf}
-use Rattle.prefix.proofs.Scan.{Whole, whole-start, whole-end, turn-next, turn-near}
+use Rattle.summary.specs.declared.Summary.{Summary}
+use Rattle.summary.proofs.Machine.{ok-back}
+use Rattle.summary.proofs.Meaning.{total-is}
+use Rattle.walk.proofs.Machine.{back64}
 use Rattle.prefix.proofs.depth_of.Statement.{statement}
 use Rattle.prefix.proofs.depth_of.Tie as tie
 
-abbrev Inv-loop : tie.InvT-loop
-Inv-loop bytes from to depth₀ i₀ depth i = (from ≤ i) × (i ≤ to) × (natAbs (toZ w64 depth) ≤ i - from) × Whole bytes i (to - i) (toZ w64 depth) (depthOf (bits bytes from (to - from)))
+stretch-requires : tie.Need-stretch-requires
+stretch-requires c κs = search needs
 
-abbrev μ-loop : tie.MeasureT-loop
-μ-loop bytes from to depth₀ i₀ depth i = to - i
+wide-requires : tie.Need-wide-requires
+wide-requires c κs = search needs
 
-loop-holds : tie.Need-loop-holds Inv-loop μ-loop
-loop-holds c = (omega zarith, omega zarith, omega zarith, whole-start _)
-
-opens-requires : tie.Need-opens-requires Inv-loop μ-loop
-opens-requires c κs = omega zarith
-
-past-requires : tie.Need-past-requires Inv-loop μ-loop
-past-requires c κs = omega zarith
-
-add-i : tie.Need-add-i Inv-loop μ-loop
-add-i c = omega zarith
-
-loop-less : tie.Need-loop-less Inv-loop μ-loop
-loop-less c = omega zarith
-
-loop-again : tie.Need-loop-again Inv-loop μ-loop
-loop-again c = let a = c .before .before .before in let s = a .before .before in
-    let l : a .loop .i + 1 ≤ s .args .to = omega zarith in
-    let m : suc (a .loop .i - s .args .from) ≡ a .loop .i + 1 - s .args .from = omega zarith in (
-      omega zarith,
-      omega zarith,
-      rw (← m) (turn-near (s .args .bytes .now) (s .args .to) (a .loop .i) (toZ w64 (a .loop .depth)) (c .past .result) (c .past .result) (c .before .opens .result)
-          (omega zarith) (c .past .ok) (c .before .opens .ensures) (c .past .ensures) _ (a .loop .inv .2)),
-      turn-next (s .args .bytes .now) (s .args .to) (a .loop .i) (toZ w64 (a .loop .depth)) (c .past .result) _ (c .before .opens .result)
-          (omega zarith) (c .past .ok) (c .before .opens .ensures) (c .past .ensures) (a .loop .inv .3),
-    )
-
-returns : tie.Need-returns Inv-loop μ-loop
-returns c = let a = c .before in whole-end (a .before .before .args .bytes .now) (a .loop .i) (a .before .before .args .to - a .loop .i) (toZ w64 (a .loop .depth)) _ (omega zarith) (a .loop .inv .3)
+returns : tie.Need-returns
+returns c = let t = c .before .before in let a = t .before .before .args in
+    back64 (c .wide .result) (c .wide .ok) ∙ c .wide .ensures ∙ ok-back (t .stretch .result .total) (c .before .struct-told .given .0 .1) ∙ ap (λ (s : Summary). s .total) (t .stretch .ensures) ∙ total-is (bits (a .bytes .now) (a .from) (a .to - a .from))
 
 pub depth-of-spec : {M : Type 1} → statement M
-depth-of-spec =
-    tie.close
-    (tie.spec
-    Inv-loop
-    μ-loop
-    loop-holds
-    opens-requires
-    past-requires
-    add-i
-    loop-less
-    loop-again
-    returns)
+depth-of-spec = tie.close (tie.spec stretch-requires wide-requires returns)

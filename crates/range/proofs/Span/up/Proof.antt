@@ -2,7 +2,7 @@
 use borrow.Author.Needs.{needs}
 use native.Mathlib.Omega.{arith}
 use Rattle.index.specs.Lent.{entryAt}
-use Rattle.range.proofs.Climb.{one-more}
+use Rattle.walk.proofs.Beside.{after-reads}
 use Rattle.range.proofs.Span.up.Statement.{statement}
 use Rattle.range.proofs.Span.up.Tie as tie
 
@@ -11,7 +11,7 @@ after-requires c κs = search needs
 
 before-requires : tie.Need-before-requires
 before-requires c κs = let s = c .before .before .before in
-    (s .pre .longer, rw (c .after .ensures) (omega (arith, s .pre .count, one-more (entryAt (s .args .index .now)) (s .args .self .k) (s .args .self .reads))))
+    (s .pre .longer, rw (c .after .ensures) (omega (arith, s .pre .count, after-reads (entryAt (s .args .index .now)) (s .args .self .k) (s .args .self .reads))))
 
 join-requires : tie.Need-join-requires
 join-requires c κs = let d = c .before .before in let s = d .before .before .before in

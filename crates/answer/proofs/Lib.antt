@@ -1,0 +1,4 @@
+pub mod Casts
+pub mod Reached
+pub mod Told
+pub mod Walked
