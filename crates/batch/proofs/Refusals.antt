@@ -16,7 +16,7 @@ use Rattle.index.specs.Shape.{height, numbersOf}
 use Rattle.index.specs.Lent.{tooFewNumbers, isIndex}
 use Rattle.index.proofs.Numbers.{tested}
 use Rattle.batch.specs.Batch.{notThrees, tooLittleRoom, differs, refusal}
-use Rattle.batch.specs.Ready.{Asked}
+use Rattle.batch.specs.Asked.{Asked}
 
 -- what each test shows, in order
 module _ (bytes : List ℕ) (m : ℕ) (idx : List ℤ) (asked room : ℕ) where

@@ -4,22 +4,10 @@ ghost use mathlib.Core.Path.{_≡_};
 ghost use Prim.Native.Nat.{_+_, _≤_};
 ghost use lib.ListN.{length};
 ghost use lib.Seq.{sets};
-ghost use Rattle.question.specs.Answer.{answerOf};
 ghost use Rattle.batch.specs.Batch.{refusal, three, answersOf, Batched};
-ghost use Rattle.batch.specs.Ready.{Ready, Asked};
+ghost use Rattle.batch.specs.Asked.{Asked};
 use judge::Outcome;
 use question::Answer;
-
-fn answer_one(bytes: &[u8], m: usize, index: &[i32], l: usize, kind: u32, a: u32, b: u32) -> Answer
-    requires { ⌜ Ready (now bytes) (now index) m l ⌝ }
-    ensures { λ r. ⌜ r ≡ answerOf (now (bytes .entry)) m kind a b ⌝ }
-{
-    Answer {
-        code: 0,
-        result: 0,
-        reads: 0,
-    }
-}
 
 fn put(answers: &mut [u32], at: usize, a: Answer)
     requires { ⌜ at + 3 ≤ length (now answers) ⌝ }
@@ -44,7 +32,7 @@ fn answer_all(
 {
     let mut at = 0;
     while at < questions.len() {
-        let a = answer_one(
+        let a = answer::answer(
             bytes,
             m,
             index,

@@ -16,32 +16,32 @@ abbrev μ-loop : tie.MeasureT-loop
 loop-holds : tie.Need-loop-holds Inv-loop μ-loop
 loop-holds c = done-none _ _ _ _
 
-mul-answer-one : tie.Need-mul-answer-one Inv-loop μ-loop
-mul-answer-one c = search needs
+mul-answer : tie.Need-mul-answer Inv-loop μ-loop
+mul-answer c = search needs
 
-shared-slice-read-answer-one : tie.Need-shared-slice-read-answer-one Inv-loop μ-loop
-shared-slice-read-answer-one c = search needs
+shared-slice-read-answer : tie.Need-shared-slice-read-answer Inv-loop μ-loop
+shared-slice-read-answer c = search needs
 
-add-answer-one : tie.Need-add-answer-one Inv-loop μ-loop
-add-answer-one c = search needs
+add-answer : tie.Need-add-answer Inv-loop μ-loop
+add-answer c = search needs
 
-mul-answer-one-2 : tie.Need-mul-answer-one-2 Inv-loop μ-loop
-mul-answer-one-2 c = search needs
+mul-answer-2 : tie.Need-mul-answer-2 Inv-loop μ-loop
+mul-answer-2 c = search needs
 
-shared-slice-read-answer-one-2 : tie.Need-shared-slice-read-answer-one-2 Inv-loop μ-loop
-shared-slice-read-answer-one-2 c = search needs
+shared-slice-read-answer-2 : tie.Need-shared-slice-read-answer-2 Inv-loop μ-loop
+shared-slice-read-answer-2 c = search needs
 
-add-answer-one-2 : tie.Need-add-answer-one-2 Inv-loop μ-loop
-add-answer-one-2 c = search needs
+add-answer-2 : tie.Need-add-answer-2 Inv-loop μ-loop
+add-answer-2 c = search needs
 
-mul-answer-one-3 : tie.Need-mul-answer-one-3 Inv-loop μ-loop
-mul-answer-one-3 c = search needs
+mul-answer-3 : tie.Need-mul-answer-3 Inv-loop μ-loop
+mul-answer-3 c = search needs
 
-shared-slice-read-answer-one-3 : tie.Need-shared-slice-read-answer-one-3 Inv-loop μ-loop
-shared-slice-read-answer-one-3 c = search needs
+shared-slice-read-answer-3 : tie.Need-shared-slice-read-answer-3 Inv-loop μ-loop
+shared-slice-read-answer-3 c = search needs
 
-answer-one-requires : tie.Need-answer-one-requires Inv-loop μ-loop
-answer-one-requires c κs = c .before .before .before .before .before .before .before .before .pre .ready
+answer-requires : tie.Need-answer-requires Inv-loop μ-loop
+answer-requires c κs = c .before .before .before .before .before .before .before .before .pre .ready
 
 put-requires : tie.Need-put-requires Inv-loop μ-loop
 put-requires c κs = search needs
@@ -56,7 +56,7 @@ loop-again : tie.Need-loop-again Inv-loop μ-loop
 loop-again c =
     let l = c .before .before .before .before .before .before .before .before .before .loop in
     let s = c .before .before .before .before .before .before .before .before .before .before .before .before .before in
-    done-next _ _ _ _ _ _ (l .inv) _ _ (s .pre .threes) (omega arith) (c .before .before .before .before .answer-one .ensures) (c .before .before .put .ensures)
+    done-next _ _ _ _ _ _ (l .inv) _ _ (s .pre .threes) (omega arith) (c .before .before .before .before .answer .ensures) (c .before .before .put .ensures)
 
 same-length : tie.Need-same-length Inv-loop μ-loop
 same-length c = c .before .loop .inv .long
@@ -71,15 +71,15 @@ answer-all-spec =
     Inv-loop
     μ-loop
     loop-holds
-    mul-answer-one
-    shared-slice-read-answer-one
-    add-answer-one
-    mul-answer-one-2
-    shared-slice-read-answer-one-2
-    add-answer-one-2
-    mul-answer-one-3
-    shared-slice-read-answer-one-3
-    answer-one-requires
+    mul-answer
+    shared-slice-read-answer
+    add-answer
+    mul-answer-2
+    shared-slice-read-answer-2
+    add-answer-2
+    mul-answer-3
+    shared-slice-read-answer-3
+    answer-requires
     put-requires
     add-at
     loop-less

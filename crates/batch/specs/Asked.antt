@@ -1,16 +1,9 @@
 -- What answering one question after the other relies on: the word and its own index are there, and room for each answer.
 use mathlib.Core.Path.{_≡_}
-use mathlib.Core.Bool.{true}
 use mathlib.Core.List.{List}
 use Prim.Native.Nat.{ℕ, _%_, _≤_}
 use lib.IntN.{ℤ}
-use Rattle.word.specs.Bits.{word}
-use Rattle.word.specs.Parse.{isBalanced}
-use Rattle.walk.specs.Lent.{Lent}
-
-pub record Ready (bytes : List ℕ) (idx : List ℤ) (m l : ℕ) : Type 0 where
-  pub lent : Lent bytes idx m l
-  pub balanced : isBalanced (word bytes m) ≡ true
+use Rattle.answer.specs.Ready.{Ready}
 
 pub record Asked (bytes : List ℕ) (idx : List ℤ) (m l asked room : ℕ) : Type 0 where
   pub ready : Ready bytes idx m l
