@@ -7,7 +7,7 @@ use Prim.Native.Nat.{ℕ, _+_, _/_}
 use native.Mathlib.Omega.{arith}
 use lib.IntN.{ℤ}
 use lib.ListN.{length, take, drop, take-append-drop}
-use lib.Seq.{sets-eq, take-at}
+use lib.Seq.{sets-eq, take-at, length-sets}
 use Rattle.word.specs.Bits.{word}
 use Rattle.word.specs.Parse.{forestOf}
 use Rattle.word.specs.Questions.{size}
@@ -33,6 +33,10 @@ module _ (bytes : List ℕ) (m : ℕ) (held : List ℤ) (ok : refusal bytes m (l
   built-is =
       let n : 0 + length (index (height m) (word bytes m)) ≡ numbersOf m = omega (arith, index-long (height m) (word bytes m), numbers-are m) in
       rw ok (sets-eq (index (height m) (word bytes m)) held 0 (omega (arith, accepted bytes m held ok .0 .index-lent)) ∙ ap (λ n. index (height m) (word bytes m) ++ drop n held) n)
+
+  pub built-long : length (builtIndex bytes m held) ≡ length held
+  unfolding builtIndex
+  built-long = rw ok (length-sets held 0 (index (height m) (word bytes m)))
 
   long : length (index (height m) (word bytes m)) ≡ numbersOf m
   long = omega (arith, index-long (height m) (word bytes m), numbers-are m)

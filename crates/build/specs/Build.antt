@@ -1,25 +1,20 @@
 -- What building gives back and writes, from the arguments alone.
 use mathlib.Core.Path.{_≡_}
 use mathlib.Core.List.{List, [], _∷_}
-use Prim.Native.Nat.{ℕ, zero, suc, _/_}
+use Prim.Native.Nat.{ℕ, _/_}
 use lib.IntN.{ℤ}
 use lib.ListN.{length}
 use lib.Seq.{sets}
 use Rattle.word.specs.Bits.{word}
 use Rattle.judge.specs.declared.Outcome.{Outcome}
 use Rattle.judge.specs.First.{firstOf}
-use Rattle.judge.specs.Judge.{tooLong, tooFewBytes, unbalanced, outcomeOf}
+use Rattle.judge.specs.Judge.{tooLong, tooFewBytes, unbalanced, outcomeOf, written}
 use Rattle.index.specs.Shape.{height, index}
 use Rattle.index.specs.Lent.{tooFewNumbers}
 
 -- "Building checks 1, 2, 3, 6"
 unfoldable pub refusal : List ℕ → ℕ → ℕ → ℕ
 refusal bytes m room = firstOf ((tooLong m, 1) ∷ (tooFewBytes bytes m, 2) ∷ (tooFewNumbers m room, 3) ∷ (unbalanced bytes m, 6) ∷ [])
-
--- "Refusals 1 to 7 .. write nothing."
-abbrev pub written : ℕ → List ℤ → List ℤ → List ℤ
-written zero now held = now
-written (suc c) now held = held
 
 -- "returns a code with n", "an ordered forest of n = m/2 nodes"
 unfoldable pub builtOutcome : List ℕ → ℕ → List ℤ → Outcome

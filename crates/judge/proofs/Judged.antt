@@ -22,6 +22,10 @@ pub nothing-beside : (n : ℕ) → (record { code = n; value = 0 }) ≡ outcomeO
 nothing-beside zero = refl
 nothing-beside (suc n) = refl
 
+pub code-of : (c n : ℕ) → outcomeOf c n .code ≡ c
+code-of zero n = refl
+code-of (suc c) n = refl
+
 pub judged-is : (bytes : List ℕ) (m : ℕ) → judged bytes m ≡ record { code = refusal bytes m; value = 0 }
 unfolding judged
 judged-is bytes m = sym (nothing-beside (refusal bytes m))

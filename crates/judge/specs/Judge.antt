@@ -29,6 +29,11 @@ abbrev pub outcomeOf : ℕ → ℕ → Outcome
 outcomeOf zero n = record { code = 0; value = n }
 outcomeOf (suc c) n = record { code = suc c; value = 0 }
 
+-- "Refusals 1 to 7 .. write nothing.": what a lent slice has afterwards, from what an accepted call leaves and what it held
+abbrev pub written : {A : Type 0} → ℕ → List A → List A → List A
+written zero now held = now
+written (suc c) now held = held
+
 -- "a call that names no other number gives 0 beside it"
 unfoldable pub judged : List ℕ → ℕ → Outcome
 judged bytes m = outcomeOf (refusal bytes m) 0

@@ -1,0 +1,4 @@
+pub mod Answers
+pub mod Refusals
+pub mod Settled
+pub mod Turns

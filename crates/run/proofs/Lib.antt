@@ -1,0 +1,4 @@
+pub mod Answered
+pub mod Example
+pub mod Printed
+pub mod Settled
