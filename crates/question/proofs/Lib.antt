@@ -2,6 +2,7 @@ pub mod Answers
 pub mod Bound
 pub mod Checks
 pub mod Children
+pub mod Codes
 pub mod Demands
 pub mod Least
 pub mod Marked
