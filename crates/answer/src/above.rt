@@ -11,7 +11,7 @@ use question::Answer;
 use question::Question;
 
 // Kind 5. "Kind 5 goes back from a+1 by 0"
-pub fn opening(bytes: &[u8], m: usize, index: &[i32], l: usize, a: usize) -> Answer
+pub(crate) fn opening(bytes: &[u8], m: usize, index: &[i32], l: usize, a: usize) -> Answer
     requires { ⌜ Ready (now bytes) (now index) m l × IsClosing (word (now bytes) m) a ⌝ }
     ensures { λ r. ⌜ r ≡ answerTo (word (now (bytes .entry)) m) (Question.Opening a) ⌝ }
 {
@@ -19,7 +19,7 @@ pub fn opening(bytes: &[u8], m: usize, index: &[i32], l: usize, a: usize) -> Ans
 }
 
 // Kind 6. "kind 6 from a by -1"
-pub fn parent(bytes: &[u8], m: usize, index: &[i32], l: usize, a: usize) -> Answer
+pub(crate) fn parent(bytes: &[u8], m: usize, index: &[i32], l: usize, a: usize) -> Answer
     requires { ⌜ Ready (now bytes) (now index) m l × IsNode (word (now bytes) m) a ⌝ }
     ensures { λ r. ⌜ r ≡ answerTo (word (now (bytes .entry)) m) (Question.Parent a) ⌝ }
 {
@@ -27,7 +27,7 @@ pub fn parent(bytes: &[u8], m: usize, index: &[i32], l: usize, a: usize) -> Answ
 }
 
 // Kind 7. "kind 7 from a by -b"; "a itself for 0", without a walk
-pub fn ancestor(bytes: &[u8], m: usize, index: &[i32], l: usize, a: usize, b: u32) -> Answer
+pub(crate) fn ancestor(bytes: &[u8], m: usize, index: &[i32], l: usize, a: usize, b: u32) -> Answer
     requires { ⌜ Ready (now bytes) (now index) m l × IsNode (word (now bytes) m) a ⌝ }
     ensures { λ r. ⌜ r ≡ answerTo (word (now (bytes .entry)) m) (Question.Ancestor a b) ⌝ }
 {

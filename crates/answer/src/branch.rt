@@ -13,7 +13,7 @@ use question::Question;
 use walk::Found;
 
 // "Kinds 4, 8, 9, 11 and 14 go forward from a by 0." A node's branch always ends.
-pub fn end_of(bytes: &[u8], m: usize, index: &[i32], l: usize, a: usize) -> End
+pub(crate) fn end_of(bytes: &[u8], m: usize, index: &[i32], l: usize, a: usize) -> End
     requires { ⌜ Ready (now bytes) (now index) m l × IsNode (word (now bytes) m) a ⌝ }
     ensures { λ r. ⌜ Ends (now (bytes .entry)) m a r ⌝ }
 {
@@ -25,7 +25,7 @@ pub fn end_of(bytes: &[u8], m: usize, index: &[i32], l: usize, a: usize) -> End
 }
 
 // Kind 4.
-pub fn closing(bytes: &[u8], m: usize, index: &[i32], l: usize, a: usize) -> Answer
+pub(crate) fn closing(bytes: &[u8], m: usize, index: &[i32], l: usize, a: usize) -> Answer
     requires { ⌜ Ready (now bytes) (now index) m l × IsNode (word (now bytes) m) a ⌝ }
     ensures { λ r. ⌜ r ≡ answerTo (word (now (bytes .entry)) m) (Question.Closing a) ⌝ }
 {
@@ -34,7 +34,7 @@ pub fn closing(bytes: &[u8], m: usize, index: &[i32], l: usize, a: usize) -> Ans
 }
 
 // Kind 8. A branch of s nodes is 2s bits.
-pub fn branch(bytes: &[u8], m: usize, index: &[i32], l: usize, a: usize) -> Answer
+pub(crate) fn branch(bytes: &[u8], m: usize, index: &[i32], l: usize, a: usize) -> Answer
     requires { ⌜ Ready (now bytes) (now index) m l × IsNode (word (now bytes) m) a ⌝ }
     ensures { λ r. ⌜ r ≡ answerTo (word (now (bytes .entry)) m) (Question.Branch a) ⌝ }
 {
@@ -43,7 +43,7 @@ pub fn branch(bytes: &[u8], m: usize, index: &[i32], l: usize, a: usize) -> Answ
 }
 
 // Kind 9. The children are the boundaries between a's opening and its closing that reach the least depth there.
-pub fn children(bytes: &[u8], m: usize, index: &[i32], l: usize, a: usize) -> Answer
+pub(crate) fn children(bytes: &[u8], m: usize, index: &[i32], l: usize, a: usize) -> Answer
     requires { ⌜ Ready (now bytes) (now index) m l × IsNode (word (now bytes) m) a ⌝ }
     ensures { λ r. ⌜ r ≡ answerTo (word (now (bytes .entry)) m) (Question.Children a) ⌝ }
 {
@@ -57,7 +57,7 @@ pub fn children(bytes: &[u8], m: usize, index: &[i32], l: usize, a: usize) -> An
 }
 
 // Kind 10. No walk: the next bit shows it.
-pub fn first_child(bytes: &[u8], m: usize, a: usize) -> Answer
+pub(crate) fn first_child(bytes: &[u8], m: usize, a: usize) -> Answer
     requires { ⌜ Row (now bytes) m × IsNode (word (now bytes) m) a ⌝ }
     ensures { λ r. ⌜ r ≡ answerTo (word (now (bytes .entry)) m) (Question.FirstChild a) ⌝ }
 {
@@ -68,7 +68,7 @@ pub fn first_child(bytes: &[u8], m: usize, a: usize) -> Answer
 }
 
 // Kind 11. What opens right after a's closing is its next sibling.
-pub fn next_sibling(bytes: &[u8], m: usize, index: &[i32], l: usize, a: usize) -> Answer
+pub(crate) fn next_sibling(bytes: &[u8], m: usize, index: &[i32], l: usize, a: usize) -> Answer
     requires { ⌜ Ready (now bytes) (now index) m l × IsNode (word (now bytes) m) a ⌝ }
     ensures { λ r. ⌜ r ≡ answerTo (word (now (bytes .entry)) m) (Question.NextSibling a) ⌝ }
 {
@@ -84,7 +84,7 @@ pub fn next_sibling(bytes: &[u8], m: usize, index: &[i32], l: usize, a: usize) -
 }
 
 // Kind 14. A branch is one run of the row.
-pub fn holds(bytes: &[u8], m: usize, index: &[i32], l: usize, a: usize, b: usize) -> Answer
+pub(crate) fn holds(bytes: &[u8], m: usize, index: &[i32], l: usize, a: usize, b: usize) -> Answer
     requires { ⌜ Ready (now bytes) (now index) m l × IsNode (word (now bytes) m) a × IsNode (word (now bytes) m) b ⌝ }
     ensures { λ r. ⌜ r ≡ answerTo (word (now (bytes .entry)) m) (Question.Holds a b) ⌝ }
 {

@@ -11,7 +11,7 @@ use question::Answer;
 use question::Question;
 
 // Kind 1. D(a) is the depth of node a.
-pub fn depth(bytes: &[u8], m: usize, index: &[i32], l: usize, a: usize) -> Answer
+pub(crate) fn depth(bytes: &[u8], m: usize, index: &[i32], l: usize, a: usize) -> Answer
     requires { ⌜ Ready (now bytes) (now index) m l × IsNode (word (now bytes) m) a ⌝ }
     ensures { λ r. ⌜ r ≡ answerTo (word (now (bytes .entry)) m) (Question.Depth a) ⌝ }
 {
@@ -20,7 +20,7 @@ pub fn depth(bytes: &[u8], m: usize, index: &[i32], l: usize, a: usize) -> Answe
 }
 
 // Kind 2. The openings before a are half of a and D(a): the node itself is not among them.
-pub fn number(bytes: &[u8], m: usize, index: &[i32], l: usize, a: usize) -> Answer
+pub(crate) fn number(bytes: &[u8], m: usize, index: &[i32], l: usize, a: usize) -> Answer
     requires { ⌜ Ready (now bytes) (now index) m l × IsNode (word (now bytes) m) a ⌝ }
     ensures { λ r. ⌜ r ≡ answerTo (word (now (bytes .entry)) m) (Question.Number a) ⌝ }
 {
@@ -29,7 +29,7 @@ pub fn number(bytes: &[u8], m: usize, index: &[i32], l: usize, a: usize) -> Answ
 }
 
 // Kind 3.
-pub fn with_number(bytes: &[u8], m: usize, index: &[i32], l: usize, r: usize) -> Answer
+pub(crate) fn with_number(bytes: &[u8], m: usize, index: &[i32], l: usize, r: usize) -> Answer
     requires { ⌜ Ready (now bytes) (now index) m l ⌝ }
     ensures { λ x. ⌜ x ≡ answerTo (word (now (bytes .entry)) m) (Question.WithNumber r) ⌝ }
 {

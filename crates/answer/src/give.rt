@@ -7,7 +7,7 @@ ghost use Rattle.answer.specs.Ready.{Near, replied, reachedOf};
 use question::Answer;
 use walk::Found;
 
-pub fn answered(result: usize, reads: u32) -> Answer
+pub(crate) fn answered(result: usize, reads: u32) -> Answer
     requires { ⌜ result ≤ 4294967295 ⌝ }
     ensures { λ r. ⌜ r ≡ replied (gives result) reads ⌝ }
 {
@@ -19,7 +19,7 @@ pub fn answered(result: usize, reads: u32) -> Answer
 }
 
 // "16 gives result 0 and the walk's reads"
-pub fn missed(reads: u32) -> Answer
+pub(crate) fn missed(reads: u32) -> Answer
     ensures { λ r. ⌜ r ≡ replied (Spec·refused 16) reads ⌝ }
 {
     Answer {
@@ -30,7 +30,7 @@ pub fn missed(reads: u32) -> Answer
 }
 
 // "Codes 11 to 15 give result 0 and reads 0"
-pub fn refused(code: u32) -> Answer
+pub(crate) fn refused(code: u32) -> Answer
     ensures { λ r. ⌜ r ≡ replied (Spec·refused code) 0 ⌝ }
 {
     Answer {
@@ -41,7 +41,7 @@ pub fn refused(code: u32) -> Answer
 }
 
 // What the last walk found is the node asked for; where it found nothing there is no such node.
-pub fn reached(found: Found, reads: u32) -> Answer
+pub(crate) fn reached(found: Found, reads: u32) -> Answer
     requires { ⌜ Near (said found) × (reads ≤ 1073741824) ⌝ }
     ensures { λ r. ⌜ r ≡ reachedOf (said found) reads ⌝ }
 {

@@ -12,7 +12,7 @@ use question::Question;
 
 // Kind 12 of an earlier and a later node. Where the depth stays above the earlier one's, that one is the answer; else "12 goes back by the
 // range's least less 1".
-pub fn shared(bytes: &[u8], m: usize, index: &[i32], l: usize, a: usize, b: usize) -> Answer
+pub(crate) fn shared(bytes: &[u8], m: usize, index: &[i32], l: usize, a: usize, b: usize) -> Answer
     requires { ⌜ Ready (now bytes) (now index) m l × IsNode (word (now bytes) m) a × IsNode (word (now bytes) m) b × (a < b) ⌝ }
     ensures { λ r. ⌜ r ≡ answerTo (word (now (bytes .entry)) m) (Question.Nearest a b) ⌝ }
 {
@@ -27,7 +27,7 @@ pub fn shared(bytes: &[u8], m: usize, index: &[i32], l: usize, a: usize, b: usiz
 }
 
 // Kind 12.
-pub fn nearest(bytes: &[u8], m: usize, index: &[i32], l: usize, a: usize, b: usize) -> Answer
+pub(crate) fn nearest(bytes: &[u8], m: usize, index: &[i32], l: usize, a: usize, b: usize) -> Answer
     requires { ⌜ Ready (now bytes) (now index) m l × IsNode (word (now bytes) m) a × IsNode (word (now bytes) m) b ⌝ }
     ensures { λ r. ⌜ r ≡ answerTo (word (now (bytes .entry)) m) (Question.Nearest a b) ⌝ }
 {
@@ -41,7 +41,7 @@ pub fn nearest(bytes: &[u8], m: usize, index: &[i32], l: usize, a: usize, b: usi
 }
 
 // Kind 13. Where no later boundary is lower, a is the answer; else "13 forward by that least".
-pub fn lowest(bytes: &[u8], m: usize, index: &[i32], l: usize, a: usize, b: usize) -> Answer
+pub(crate) fn lowest(bytes: &[u8], m: usize, index: &[i32], l: usize, a: usize, b: usize) -> Answer
     requires { ⌜ Ready (now bytes) (now index) m l × (a ≤ b) × (b ≤ m) ⌝ }
     ensures { λ r. ⌜ r ≡ answerTo (word (now (bytes .entry)) m) (Question.Lowest a b) ⌝ }
 {

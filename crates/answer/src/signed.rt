@@ -5,14 +5,14 @@ ghost use lib.IntN.{pos, negℤ, natAbs, _-ℤ_};
 ghost use lib.Signed.{leZ, _≤ℤ_};
 ghost use Rattle.word.specs.Signed.{P};
 
-pub fn natural(x: i64) -> usize
+pub(crate) fn natural(x: i64) -> usize
     requires { ⌜ pos 0 ≤ℤ x ⌝ }
     ensures { λ r. ⌜ r ≡ P x ⌝ }
 {
     x as usize
 }
 
-pub fn counted(x: i32) -> usize
+pub(crate) fn counted(x: i32) -> usize
     requires { ⌜ pos 0 ≤ℤ x ⌝ }
     ensures { λ r. ⌜ r ≡ P x ⌝ }
 {
@@ -20,26 +20,26 @@ pub fn counted(x: i32) -> usize
 }
 
 // "kind 7 from a by -b"
-pub fn back_by(b: u32) -> i64
+pub(crate) fn back_by(b: u32) -> i64
     ensures { λ r. ⌜ r ≡ negℤ (pos b) ⌝ }
 {
     0 - b as i64
 }
 
-pub fn positive(least: i32) -> bool
+pub(crate) fn positive(least: i32) -> bool
     ensures { λ r. ⌜ r ≡ leZ (pos 1) least ⌝ }
 {
     1 <= least
 }
 
-pub fn not_negative(least: i32) -> bool
+pub(crate) fn not_negative(least: i32) -> bool
     ensures { λ r. ⌜ r ≡ leZ (pos 0) least ⌝ }
 {
     0 <= least
 }
 
 // "12 goes back by the range's least less 1"
-pub fn less_one(least: i32) -> i64
+pub(crate) fn less_one(least: i32) -> i64
     ensures { λ r. ⌜ r ≡ least -ℤ pos 1 ⌝ }
 {
     least as i64 - 1

@@ -28,6 +28,12 @@ module _ (bytes : List ℕ) (m : ℕ) (idx : List ℤ) (q held : List ℕ) where
   ends-refused zero i h = absurd (h refl)
   ends-refused (suc c) i h = record { outcome-is = rw (← i); answers-are = rw (← i) }
 
+  -- "Refusals 1 to 7 return 0 beside the code and write nothing."
+  pub refused-whole : (r : Outcome) (left : List ℕ) → Batched bytes m idx q held r left → (refusal bytes m idx (length q) (length held) ≡ 0 → ⊥)
+      → (r ≡ record { code = refusal bytes m idx (length q) (length held); value = 0 }) × (left ≡ held)
+  refused-whole r left p some-refusal =
+      settled r (record { code = refusal bytes m idx (length q) (length held); value = 0 }) left held p (ends-refused (refusal bytes m idx (length q) (length held)) refl some-refusal)
+
   pub ends-answered : (c : ℕ) → c ≡ refusal bytes m idx (length q) (length held) → c ≡ 0 → (left : List ℕ) → left ≡ sets held 0 (answersOf bytes m q)
       → Batched bytes m idx q held (record { code = 0; value = length q / 3 }) left
   unfolding batchOutcome batchAnswers

@@ -1,5 +1,5 @@
 -- What the promise of building settles: everything; and the index that is checked is the one that is built. Assumes nothing.
-use mathlib.Core.Path.{_≡_, sym, ap, _∙_}
+use mathlib.Core.Path.{_≡_, refl, sym, ap, _∙_}
 use mathlib.Core.Logic.{_↔_}
 use mathlib.Core.Bool.{true}
 use mathlib.Core.List.{List, _++_}
@@ -20,11 +20,17 @@ use Rattle.index.specs.Lent.{isIndex}
 use Rattle.index.proofs.Height.{numbers-are}
 use Rattle.index.proofs.Numbers.{index-long, is-index}
 use Rattle.build.specs.Build.{refusal, builtIndex, Built}
-use Rattle.build.proofs.Refusal.{accepted}
+use Rattle.build.proofs.Refusal.{accepted, ends-refused}
 
 -- no second outcome fits
 pub settled : (bytes : List ℕ) (m : ℕ) (held : List ℤ) (r r′ : Outcome) (left left′ : List ℤ) → Built bytes m held r left → Built bytes m held r′ left′ → (r ≡ r′) × (left ≡ left′)
 settled bytes m held r r′ left left′ p q = (p .outcome-is ∙ sym (q .outcome-is), p .index-is ∙ sym (q .index-is))
+
+-- "Refusals 1 to 7 return 0 beside the code and write nothing."
+pub refused-whole : (bytes : List ℕ) (m : ℕ) (held : List ℤ) (r : Outcome) (left : List ℤ) → Built bytes m held r left → (refusal bytes m (length held) ≡ 0 → ⊥)
+    → (r ≡ record { code = refusal bytes m (length held); value = 0 }) × (left ≡ held)
+refused-whole bytes m held r left p some-refusal =
+    settled bytes m held r (record { code = refusal bytes m (length held); value = 0 }) left held p (ends-refused bytes m held (refusal bytes m (length held)) refl some-refusal)
 
 module _ (bytes : List ℕ) (m : ℕ) (held : List ℤ) (ok : refusal bytes m (length held) ≡ 0) where
   -- the first 8L numbers are the index, and later ones are kept

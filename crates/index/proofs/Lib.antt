@@ -4,3 +4,4 @@ pub mod Height
 pub mod Laid
 pub mod Level
 pub mod Numbers
+pub mod Settled

@@ -1,4 +1,4 @@
--- What the judge's promise settles, and which words it accepts. Assumes nothing.
+-- Which words the judge accepts, and what it gives beside each refusal. Assumes nothing.
 use mathlib.Core.Path.{_≡_, refl, sym, ap, _∙_}
 use mathlib.Core.Logic.{_↔_}
 use mathlib.Core.Bool.{Bool, true, false, cond}
@@ -29,10 +29,6 @@ code-of (suc c) n = refl
 pub judged-is : (bytes : List ℕ) (m : ℕ) → judged bytes m ≡ record { code = refusal bytes m; value = 0 }
 unfolding judged
 judged-is bytes m = sym (nothing-beside (refusal bytes m))
-
--- no second outcome fits
-pub settled : (bytes : List ℕ) (m : ℕ) (r s : Outcome) → r ≡ judged bytes m → s ≡ judged bytes m → r ≡ s
-settled bytes m r s p q = p ∙ sym q
 
 pub record Accepted (bytes : List ℕ) (m : ℕ) : Type 0 where
   pub short : m ≤ 2097152

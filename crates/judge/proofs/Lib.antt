@@ -1,3 +1,4 @@
 pub mod First
 pub mod Judged
+pub mod Settled
 pub mod Tests

@@ -2,8 +2,10 @@ pub mod Answers
 pub mod Bound
 pub mod Checks
 pub mod Children
+pub mod Codes
 pub mod Demands
 pub mod Least
 pub mod Marked
 pub mod Ranges
+pub mod Settled
 pub mod Sound

@@ -1,3 +1,4 @@
 pub mod Descent
 pub mod Half
 pub mod Leaf
+pub mod Settled

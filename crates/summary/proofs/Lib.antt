@@ -5,3 +5,4 @@ pub mod Depth
 pub mod Join
 pub mod Machine
 pub mod Meaning
+pub mod Settled

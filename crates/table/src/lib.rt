@@ -11,7 +11,7 @@ use summary::Summary;
 mod rows;
 
 // A byte's row of the table.
-pub fn of_byte(b: u8) -> Summary
+fn of_byte(b: u8) -> Summary
     ensures { λ r. ⌜ r ≡ rowOf b ⌝ }
 {
     let at = 4 * b as usize;

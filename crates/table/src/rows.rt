@@ -1031,7 +1031,7 @@ const ROWS: [i32; 1024] = [
     1, // 0xFF
 ];
 
-pub fn number(k: usize) -> i32
+pub(crate) fn number(k: usize) -> i32
     requires { ⌜ k < 1024 ⌝ }
     ensures { λ r. ⌜ r ≡ numberAt k ⌝ }
 {

@@ -13,6 +13,7 @@ pub mod Prefix
 pub mod Range
 pub mod Room
 pub mod Select
+pub mod Settled
 pub mod Signed64
 pub mod Stretches
 pub mod Whole

@@ -10,6 +10,7 @@ pub mod Depth
 pub mod Lowest
 pub mod Nodes
 pub mod Parse
+pub mod Settled
 pub mod Signed
 pub mod SignedUses
 pub mod Tests

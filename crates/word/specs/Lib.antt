@@ -5,4 +5,5 @@ pub mod Forest
 pub mod Nodes
 pub mod Parse
 pub mod Questions
+pub mod Settles
 pub mod Signed
