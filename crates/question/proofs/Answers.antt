@@ -3,16 +3,16 @@ use mathlib.Core.Path.{_≡_, refl, sym, ap, ap₂, subst, _∙_}
 use mathlib.Core.Bool.{Bool, true, false, cond, _&&_}
 use mathlib.Core.List.{List}
 use mathlib.Core.Option.{Option, none, some}
-use Prim.Native.Nat.{ℕ, zero, suc, pred, _+_, _-_, _*_, _/_, _^_, _≤_, _<_}
+use Prim.Native.Nat.{ℕ, suc, pred, _-_, _/_, _≤_, _<_}
 use native.Mathlib.Omega.{arith}
 use borrow.Author.Tests.{ne-eqb}
-use lib.Dec.{eqb, leb, ltb}
+use lib.Dec.{leb, ltb}
 use lib.ListN.{length, getD}
-use lib.IntN.{ℤ, pos, negsuc, negℤ}
+use lib.IntN.{pos, negsuc, negℤ}
 use Rattle.word.specs.Forest.{Forest, encode}
 use Rattle.word.specs.Parse.{isBalanced, forestOf}
 use Rattle.word.specs.Depth.{Forward, NoForward, Backward, NoBackward}
-use Rattle.word.specs.Questions.{depth, number, withNumber, closingOf, openingOf, parent, ancestor, branch, children, firstChild, nextSibling, nearest, lowest, holds}
+use Rattle.word.specs.Questions.{openingOf, parent, ancestor}
 use Rattle.word.proofs.Parse.{encode-forestOf}
 use Rattle.word.proofs.Depth.{bit-in}
 use Rattle.word.proofs.Answers as answers
@@ -25,8 +25,8 @@ use Rattle.walk.proofs.Forward.{forward-some, forward-none}
 use Rattle.walk.proofs.Backward.{backward-some, backward-none}
 use Rattle.question.specs.declared.Answer.{Answer}
 use Rattle.question.specs.declared.Question.{Question}
-use Rattle.question.specs.declared.Question.the-variants.{Depth, Number, WithNumber, Closing, Opening, Parent, Ancestor, Branch, Children, FirstChild, NextSibling, Nearest, Lowest, Holds, Refused}
-use Rattle.question.specs.Reply.{Reply, gives, refused, found, replyOf}
+use Rattle.question.specs.declared.Question.the-variants.{Closing, Opening, Parent, Ancestor, Branch, FirstChild, NextSibling, Holds}
+use Rattle.question.specs.Reply.{Reply, gives, found, replyOf}
 use Rattle.question.specs.Reads.{readsOf}
 use Rattle.question.specs.Answer.{answerTo}
 

@@ -1,9 +1,9 @@
 -- No question reads more than four times the index's height. Assumes nothing.
-use mathlib.Core.Path.{_≡_, refl, sym, ap, subst, _∙_}
+use mathlib.Core.Path.{_≡_, refl}
 use mathlib.Core.Bool.{Bool, true, false, cond}
 use mathlib.Core.List.{List}
 use mathlib.Core.Option.{Option, none, some}
-use Prim.Native.Nat.{ℕ, zero, suc, _+_, _-_, _*_, _/_, _^_, _≤_, _<_, min, max}
+use Prim.Native.Nat.{ℕ, suc, _+_, _-_, _*_, _/_, _^_, _≤_, _<_, min, max}
 use native.Mathlib.Omega.{arith}
 use native.Mathlib.Decide.{ℕ-discrete}
 use borrow.Author.Tests.{eq-eqb, ne-eqb}
@@ -27,7 +27,6 @@ use Rattle.question.specs.declared.Question.{Question}
 use Rattle.question.specs.declared.Question.the-variants.{Depth, Number, WithNumber, Closing, Opening, Parent, Ancestor, Branch, Children, FirstChild, NextSibling, Nearest, Lowest, Holds, Refused}
 use Rattle.question.specs.Decode.{decodeOf}
 use Rattle.question.specs.Reads.{orZero, readsOf, nearestReads, lowestReads}
-use Rattle.question.specs.Answer.{answerOf, answerTo}
 use Rattle.question.specs.Places.{IsNode, Sound}
 use Rattle.question.proofs.Sound.{decode-sound}
 use Rattle.question.proofs.Answers.{ends-some}

@@ -2,16 +2,16 @@
 use mathlib.Core.Path.{_≡_, refl, sym, ap, ap₂, subst, _∙_}
 use mathlib.Core.Bool.{Bool, true, false, cond}
 use mathlib.Core.List.{List}
-use mathlib.Core.Option.{Option, none, some}
-use Prim.Native.Nat.{ℕ, zero, suc, pred, _+_, _-_, _≤_, _<_}
+use mathlib.Core.Option.{some}
+use Prim.Native.Nat.{ℕ, suc, pred, _+_, _-_, _≤_, _<_}
 use native.Mathlib.Omega.{arith}
 use lib.ListN.{length, take, drop, getD}
-use lib.IntN.{ℤ, pos, _+ℤ_, _-ℤ_}
+use lib.IntN.{pos, _+ℤ_}
 use Rattle.word.specs.Forest.{Forest, empty, tree, encode, D}
 use Rattle.word.specs.Parse.{isBalanced, forestOf}
 use Rattle.word.specs.Signed.{P}
 use Rattle.word.specs.Depth.{Forward}
-use Rattle.word.specs.Questions.{roots, children}
+use Rattle.word.specs.Questions.{roots}
 use Rattle.word.proofs.Parse.{encode-forestOf}
 use Rattle.word.proofs.Signed.{zarith, +law, -law}
 use Rattle.word.proofs.Depth.{D-up, D-down, bit-in}

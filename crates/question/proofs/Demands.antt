@@ -1,10 +1,10 @@
 -- Demand 3 over the answers themselves: code and result of questions on one accepted word. Assumes nothing.
-use mathlib.Core.Path.{_≡_, refl, sym, ap, ap₂, subst, _∙_}
+use mathlib.Core.Path.{_≡_, refl, sym, ap, subst, _∙_}
 use mathlib.Core.Logic.{_↔_}
-use mathlib.Core.Bool.{Bool, true, false, cond, not}
-use mathlib.Core.List.{List, [], _∷_}
+use mathlib.Core.Bool.{Bool, true, false, cond}
+use mathlib.Core.List.{List, []}
 use mathlib.Core.Option.{Option, none, some}
-use Prim.Native.Nat.{ℕ, zero, suc, _+_, _≤_, _<_}
+use Prim.Native.Nat.{ℕ, _+_, _≤_, _<_}
 use native.Mathlib.Omega.{arith}
 use borrow.Author.Tests.{lt-ltb}
 use lib.Dec.{eqb}
@@ -15,11 +15,10 @@ use Rattle.word.specs.Questions.{number, ancestor, branch, nearest, holds}
 use Rattle.word.proofs.Parse.{encode-forestOf}
 use Rattle.word.proofs.Depth.{bit-in}
 use Rattle.word.proofs.Demands.{andThen, meet, climb-climb, ancestor-node, nearest-node, meet-assoc, nearest-comm, nearest-self, holds-nearest, holds-run}
-use Rattle.judge.specs.First.{firstOf}
 use Rattle.question.specs.declared.Question.{Question}
 use Rattle.question.specs.declared.Question.the-variants.{Number, Ancestor, Branch, Nearest, Holds}
 use Rattle.question.specs.Decode.{node, unless, decodeOf}
-use Rattle.question.specs.Reply.{Reply, gives, refused, found, replyOf}
+use Rattle.question.specs.Reply.{Reply, gives, found, replyOf}
 
 -- code and result that a question gets
 abbrev pub asked : List Bool → ℕ → ℕ → ℕ → Reply

@@ -1,6 +1,6 @@
 -- Document 01's examples on W, `(()(()()))()`, that it marks (P): one table, one claim.
 use mathlib.Core.Path.{_≡_, refl}
-use mathlib.Core.List.{List, [], _∷_, map}
+use mathlib.Core.List.{[], _∷_}
 use Prim.Native.Nat.{ℕ}
 use Rattle.word.specs.Signed.{minZ, maxZ, eqZ}
 use Rattle.word.specs.Parse.{parse, forestOf}

@@ -3,27 +3,26 @@ use mathlib.Core.Path.{_≡_, refl, sym, ap, ap₂, subst, _∙_}
 use mathlib.Core.Bool.{Bool, true, false, cond}
 use mathlib.Core.List.{List}
 use mathlib.Core.Option.{Option, none, some}
-use Prim.Native.Nat.{ℕ, zero, suc, pred, _+_, _-_, _*_, _/_, _^_, _≤_, _<_, min, max}
+use Prim.Native.Nat.{ℕ, _+_, _-_, _*_, _/_, _^_, _≤_, _<_, min, max}
 use native.Mathlib.Omega.{arith}
 use borrow.Author.Tests.{ne-eqb, eq-eqb, lt-ltb, le-ltb}
-use lib.Dec.{eqb, ltb}
-use lib.ListN.{length, take, drop, getD}
+use lib.Dec.{eqb}
+use lib.ListN.{length, take, getD}
 use lib.IntN.{ℤ, pos, _+ℤ_, _-ℤ_}
-use lib.Signed.{leZ, _≤ℤ_}
+use lib.Signed.{leZ}
 use Rattle.word.specs.Forest.{Forest, encode, count, D}
 use Rattle.word.specs.Parse.{isBalanced, forestOf}
 use Rattle.word.specs.Signed.{P}
-use Rattle.word.specs.Depth.{Forward, NoForward, Backward, NoBackward, Least}
+use Rattle.word.specs.Depth.{Backward, NoBackward, Least}
 use Rattle.word.specs.Questions.{withNumber, nearest, lowest}
 use Rattle.word.proofs.Parse.{encode-forestOf}
-use Rattle.word.proofs.Signed.{zarith, +law}
+use Rattle.word.proofs.Signed.{zarith}
 use lib.Seq.{take-length}
 use Rattle.word.proofs.Depth.{bit-in, rank-sum}
 use Rattle.word.proofs.Bridge.{even}
 use Rattle.word.proofs.Balance.{D-is-pos}
 use Rattle.word.proofs.Demands.{nearest-comm, nearest-self}
 use Rattle.word.proofs.Answers as answers
-use Rattle.summary.specs.Stretch.{summaryOf}
 use Rattle.summary.specs.declared.Summary.{Summary}
 use Rattle.index.specs.Shape.{height}
 use Rattle.index.proofs.Height.{height-reaches}
@@ -38,10 +37,9 @@ use Rattle.walk.proofs.Backward.{backward-some, backward-none}
 use Rattle.walk.proofs.Prefix.{prefix-is}
 use Rattle.walk.proofs.Select.{select-some, select-none}
 use Rattle.walk.proofs.Range.{range-is}
-use Rattle.question.specs.declared.Question.{Question}
-use Rattle.question.specs.declared.Question.the-variants.{Depth, Number, WithNumber, Children, Nearest, Lowest}
-use Rattle.question.specs.Reply.{Reply, gives, refused, found, replyOf}
-use Rattle.question.specs.Reads.{readsOf, nearestReads, lowestReads}
+use Rattle.question.specs.declared.Question.the-variants.{Depth, Number, WithNumber, Nearest, Lowest}
+use Rattle.question.specs.Reply.{gives, refused, found, replyOf}
+use Rattle.question.specs.Reads.{readsOf, nearestReads}
 use Rattle.question.specs.Answer.{answerTo}
 use Rattle.question.proofs.Answers.{answer, answer-is}
 use Rattle.question.proofs.Least.{least-is}

@@ -2,14 +2,12 @@
 use mathlib.Core.Path.{_≡_, refl}
 use mathlib.Core.Bool.{Bool, true, false, cond, not}
 use mathlib.Core.List.{List, [], _∷_}
-use Prim.Native.Nat.{ℕ, zero, suc, _≤_, _<_}
-use native.Mathlib.Omega.{arith}
+use Prim.Native.Nat.{ℕ, suc}
 use borrow.Author.Tests.{ltb-true, ltb-false}
 use lib.Dec.{ltb, eqb}
 use lib.ListN.{length, getD}
-use Rattle.judge.specs.First.{firstOf}
 use Rattle.question.specs.declared.Question.{Question}
-use Rattle.question.specs.declared.Question.the-variants.{Depth, Number, WithNumber, Closing, Opening, Parent, Ancestor, Branch, Children, FirstChild, NextSibling, Nearest, Lowest, Holds, Refused}
+use Rattle.question.specs.declared.Question.the-variants.{Depth, Number, Closing, Opening, Parent, Ancestor, Branch, Children, FirstChild, NextSibling, Nearest, Lowest, Holds}
 use Rattle.question.specs.Places.{IsNode, IsClosing, Sound}
 use Rattle.question.specs.Decode.{Checks, node, closing, boundaries, unless, decodeOf}
 

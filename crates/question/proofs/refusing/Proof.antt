@@ -2,8 +2,6 @@ use borrow.Author.Needs.{needs}
 use Rattle.question.proofs.Checks.{refusing-not}
 use Rattle.question.proofs.refusing.Statement.{statement}
 use Rattle.question.proofs.refusing.Tie as tie
-use Rattle.question.proofs.refusing.Reads as reads
-use Rattle.question.proofs.refusing.Lts as lts
 
 -- src/lib.rt:67:9
 returns : tie.Need-returns

@@ -32,7 +32,8 @@ answered-requires c κs = search needs
 returns-2 : tie.Need-returns-2
 returns-2 c =
     let s = c .before .before .before .before .before in let r = row (s .pre .0) in
-    c .answered .ensures ∙ childless-told r (s .pre .1) (c .before .before .before .end-of .ensures) (c .before .before .opens .ensures) (c .before .if1 .left)
+    c .answered .ensures
+        ∙ childless-told r (s .pre .1) (c .before .before .before .end-of .ensures) (c .before .before .opens .ensures) (c .before .if1 .left)
 
 pub children-spec : {M : Type 1} → statement M
 children-spec = tie.close (tie.spec end-of-requires add-opens opens-requires between-requires returns answered-requires returns-2)

@@ -18,10 +18,14 @@ enum-known-found-2 : tie.Need-enum-known-found-2
 enum-known-found-2 c = search needs
 
 returns : tie.Need-returns
-returns c = let s = c .before .before .before .before .before in end-at (row (s .pre .0)) (s .pre .1) (c .before .before .before .forward .ensures) (c .before .found .given .1)
+returns c =
+    let s = c .before .before .before .before .before in
+    end-at (row (s .pre .0)) (s .pre .1) (c .before .before .before .forward .ensures) (c .before .found .given .1)
 
 returns-2 : tie.Need-returns-2
-returns-2 c = let s = c .before .before .before .before .before in absurd (end-nothing (row (s .pre .0)) (s .pre .1) (c .before .before .before .forward .ensures) (c .before .found2 .given .1))
+returns-2 c =
+    let s = c .before .before .before .before .before in
+    absurd (end-nothing (row (s .pre .0)) (s .pre .1) (c .before .before .before .forward .ensures) (c .before .found2 .given .1))
 
 pub end-of-spec : {M : Type 1} → statement M
 end-of-spec = tie.close (tie.spec forward-requires enum-known-found enum-known-found-2 returns returns-2)

@@ -27,13 +27,17 @@ answered-requires c κs =
     omega (arith, r .small, next-in r (s .pre .1))
 
 returns : tie.Need-returns
-returns c = let s = c .before .before .before .before in c .answered .ensures ∙ child-told (s .pre .0) (s .pre .1) (c .before .before .opens .ensures) (c .before .if1 .taken)
+returns c =
+    let s = c .before .before .before .before in
+    c .answered .ensures ∙ child-told (s .pre .0) (s .pre .1) (c .before .before .opens .ensures) (c .before .if1 .taken)
 
 missed-requires : tie.Need-missed-requires
 missed-requires c κs = search needs
 
 returns-2 : tie.Need-returns-2
-returns-2 c = let s = c .before .before .before .before in c .missed .ensures ∙ no-child (s .pre .0) (s .pre .1) (c .before .before .opens .ensures) (c .before .if1 .left)
+returns-2 c =
+    let s = c .before .before .before .before in
+    c .missed .ensures ∙ no-child (s .pre .0) (s .pre .1) (c .before .before .opens .ensures) (c .before .if1 .left)
 
 pub first-child-spec : {M : Type 1} → statement M
 first-child-spec = tie.close (tie.spec add-opens opens-requires add-answered answered-requires returns missed-requires returns-2)

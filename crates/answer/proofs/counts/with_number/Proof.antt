@@ -20,7 +20,9 @@ reached-requires : tie.Need-reached-requires
 reached-requires c κs = (select-near (row (c .before .before .before .pre)) _ (c .select .ensures), omega arith)
 
 returns-2 : tie.Need-returns-2
-returns-2 c = let s = c .before .before .before .before in c .reached .ensures ∙ number-at (row (s .pre)) (c .before .before .if1 .left) (c .before .select .ensures)
+returns-2 c =
+    let s = c .before .before .before .before in
+    c .reached .ensures ∙ number-at (row (s .pre)) (c .before .before .if1 .left) (c .before .select .ensures)
 
 pub with-number-spec : {M : Type 1} → statement M
 with-number-spec = tie.close (tie.spec missed-requires returns select-requires reached-requires returns-2)

@@ -25,7 +25,9 @@ shared-requires-2 : tie.Need-shared-requires-2
 shared-requires-2 c κs = let s = c .before .before .before in (s .pre .0, s .pre .2, s .pre .1, omega (arith, c .if2 .left, c .before .if1 .left))
 
 returns-3 : tie.Need-returns-3
-returns-3 c = let s = c .before .before .before .before in c .shared2 .ensures ∙ sym (nearest-turned (row (s .pre .0)) (s .args .a) (s .args .b) (c .before .before .if1 .left))
+returns-3 c =
+    let s = c .before .before .before .before in
+    c .shared2 .ensures ∙ sym (nearest-turned (row (s .pre .0)) (s .args .a) (s .args .b) (c .before .before .if1 .left))
 
 pub nearest-spec : {M : Type 1} → statement M
 nearest-spec = tie.close (tie.spec answered-requires returns shared-requires returns-2 shared-requires-2 returns-3)
