@@ -7,3 +7,4 @@ pub mod Least
 pub mod Marked
 pub mod Ranges
 pub mod Sound
+pub mod Word
