@@ -33,7 +33,8 @@ abbrev pub answer : Reply → ℕ → Answer
 answer r n = record { code = r .code; result = r .result; reads = n }
 
 -- an answer is its reply and its reads
-pub answer-is : (w : List Bool) (q : Question) (r : Reply) (n : ℕ) → replyOf w (forestOf w) q ≡ r → readsOf (height (length w)) w q ≡ n → answer r n ≡ answerTo w q
+pub answer-is : (w : List Bool) (q : Question) (r : Reply) (n : ℕ) →
+    replyOf w (forestOf w) q ≡ r → readsOf (height (length w)) w q ≡ n → answer r n ≡ answerTo w q
 unfolding answerTo
 answer-is w q r n e d = sym (ap₂ answer e d)
 
@@ -96,12 +97,15 @@ module _ (w : List Bool) (balanced : isBalanced w ≡ true) where
     ancestor-self-is = answer-is w (Ancestor a 0) (gives a) 0 (ap found (answers.ancestor-self f a opens′)) refl
 
     up : (b : ℕ) → 0 < b → (o : Option ℕ) → backward h w a (negℤ (pos b)) .0 ≡ o → ancestor f a b ≡ o
-    up b l none e = answers.ancestor-none f a opens′ b l (on-forest w balanced (λ u. NoBackward u a (negℤ (pos b))) (backward-none h w (over w) a (negℤ (pos b)) (omega (arith, inside)) e))
-    up b l (some p) e = answers.ancestor-by f a opens′ b p l (on-forest w balanced (λ u. Backward u a (negℤ (pos b)) p) (backward-some h w (over w) a (negℤ (pos b)) (omega (arith, inside)) p e))
+    up b l none e = answers.ancestor-none f a opens′ b l
+        (on-forest w balanced (λ u. NoBackward u a (negℤ (pos b))) (backward-none h w (over w) a (negℤ (pos b)) (omega (arith, inside)) e))
+    up b l (some p) e = answers.ancestor-by f a opens′ b p l
+        (on-forest w balanced (λ u. Backward u a (negℤ (pos b)) p) (backward-some h w (over w) a (negℤ (pos b)) (omega (arith, inside)) p e))
 
     pub parent-is : (r : Reach) → backward h w a (negsuc 0) ≡ r → answer (found (r .0)) (r .1) ≡ answerTo w (Parent a)
     unfolding replyOf readsOf parent
-    parent-is r e = answer-is w (Parent a) (found (r .0)) (r .1) (ap found (up 1 (omega arith) (r .0) (ap (λ (x : Reach). x .0) e))) (ap (λ (x : Reach). x .1) e)
+    parent-is r e = answer-is w (Parent a) (found (r .0)) (r .1)
+        (ap found (up 1 (omega arith) (r .0) (ap (λ (x : Reach). x .0) e))) (ap (λ (x : Reach). x .1) e)
 
     pub ancestor-is : (b : ℕ) → (b ≡ 0 → ⊥) → (r : Reach) → backward h w a (negℤ (pos b)) ≡ r → answer (found (r .0)) (r .1) ≡ answerTo w (Ancestor a b)
     unfolding replyOf readsOf
@@ -114,8 +118,10 @@ module _ (w : List Bool) (balanced : isBalanced w ≡ true) where
     closes′ = on-forest w balanced (λ u. getD u a true ≡ false) closes
 
     opened : (o : Option ℕ) → backward h w (suc a) (pos 0) .0 ≡ o → openingOf f a ≡ o
-    opened none e = absurd (answers.backward-some f a closes′ (on-forest w balanced (λ u. NoBackward u (suc a) (pos 0)) (backward-none h w (over w) (suc a) (pos 0) (omega arith) e)))
-    opened (some p) e = answers.opening-by f a closes′ p (on-forest w balanced (λ u. Backward u (suc a) (pos 0) p) (backward-some h w (over w) (suc a) (pos 0) (omega arith) p e))
+    opened none e = absurd (answers.backward-some f a closes′
+        (on-forest w balanced (λ u. NoBackward u (suc a) (pos 0)) (backward-none h w (over w) (suc a) (pos 0) (omega arith) e)))
+    opened (some p) e = answers.opening-by f a closes′ p
+        (on-forest w balanced (λ u. Backward u (suc a) (pos 0) p) (backward-some h w (over w) (suc a) (pos 0) (omega arith) p e))
 
     pub opening-is : (r : Reach) → backward h w (suc a) (pos 0) ≡ r → answer (found (r .0)) (r .1) ≡ answerTo w (Opening a)
     unfolding replyOf readsOf

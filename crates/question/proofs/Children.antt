@@ -51,7 +51,8 @@ module _ (w : List Bool) (a q : ℕ) (opens : getD w a false ≡ true) (ends : F
     where
       not-past : suc (suc a) < q → ⊥
       not-past l = ends .first (suc (suc a)) (omega arith) l
-          (let d : D w (suc (suc a)) ≡ D w a +ℤ pos 0 = omega (zarith, D-up w a opens, D-down w (suc a) o, +law (D w a) (pos 0), +law (D w a) (pos 1), -law (D w (suc a)) (pos 1)) in d)
+          (let d : D w (suc (suc a)) ≡ D w a +ℤ pos 0 =
+          omega (zarith, D-up w a opens, D-down w (suc a) o, +law (D w a) (pos 0), +law (D w a) (pos 1), -law (D w (suc a)) (pos 1)) in d)
 
 -- so a node's opening is never the last bit
 pub next-inside : (w : List Bool) → isBalanced w ≡ true → (a : ℕ) → getD w a false ≡ true → suc a < length w
@@ -83,7 +84,8 @@ module _ (w : List Bool) (balanced : isBalanced w ≡ true) (a q n : ℕ) (opens
     unfolding replyOf readsOf
     children-none o = answer-is w (Children a) (gives 0) n
         (ap found (kids .answer ∙ ap (λ k. some (roots k)) (kids .leaf .1 (closes-two w a q opens ends o))))
-        (ap₂ (λ i t. i + cond t (range h w (suc a) (orZero (forward h w a (pos 0) .0) - 1) .1) 0) reads (shut (getD w (suc a) false) refl) ∙ (let z : n + 0 ≡ n = omega arith in z))
+        (ap₂ (λ i t. i + cond t (range h w (suc a) (orZero (forward h w a (pos 0) .0) - 1) .1) 0) reads (shut (getD w (suc a) false) refl)
+        ∙ (let z : n + 0 ≡ n = omega arith in z))
       where
         shut : (t : Bool) → getD w (suc a) false ≡ t → getD w (suc a) false ≡ false
         shut false e = e

@@ -62,7 +62,8 @@ module _ (w : List Bool) (balanced : isBalanced w ≡ true) where
     D-is = sym (prefix-is h w (over w) a inside) ∙ ap (λ (x : ℤ × ℕ). x .0) walked
 
     pub depth-nat : d ≡ pos (P d)
-    depth-nat = subst (λ z. z ≡ pos (P z)) (ap (λ u. D u a) (forest-is w balanced) ∙ D-is) (D-is-pos f a (on-forest w balanced (λ u. a ≤ length u) (omega (arith, inside))))
+    depth-nat = subst (λ z. z ≡ pos (P z)) (ap (λ u. D u a) (forest-is w balanced) ∙ D-is)
+        (D-is-pos f a (on-forest w balanced (λ u. a ≤ length u) (omega (arith, inside))))
 
     D-of : D (encode f) a ≡ pos (P d)
     D-of = ap (λ u. D u a) (forest-is w balanced) ∙ D-is ∙ depth-nat
@@ -81,7 +82,14 @@ module _ (w : List Bool) (balanced : isBalanced w ≡ true) where
 
   -- ---- kind 3
   half : count true w ≡ length w / 2
-  half = subst (λ u. count true u ≡ length u / 2) (forest-is w balanced) (omega (arith, even f, ap (count true) (take-length (encode f)), ap (count false) (take-length (encode f)), rank-sum (encode f) (length (encode f)) (omega arith)))
+  half = subst (λ u. count true u ≡ length u / 2) (forest-is w balanced)
+      (omega (
+        arith,
+        even f,
+        ap (count true) (take-length (encode f)),
+        ap (count false) (take-length (encode f)),
+        rank-sum (encode f) (length (encode f)) (omega arith),
+      ))
 
   pub withNumber-past : (r : ℕ) → length w / 2 ≤ r → answer (refused 16) 0 ≡ answerTo w (WithNumber r)
   unfolding replyOf readsOf
@@ -125,20 +133,22 @@ module _ (w : List Bool) (balanced : isBalanced w ≡ true) where
       walks : enough s ≡ false → (k : ℕ) → next s ≡ k → both (range h w a b .0) (range h w a b .1) ≡ n + k
       walks e k d = ap₂ both summary-is reads-are ∙ ap (λ t. n + cond t 0 (next s)) e ∙ ap (λ i. n + i) d
 
+    fell : Least w a (a + (b - a)) (s .least)
+    fell = subst (λ j. Least w a j (s .least)) (let z : b ≡ a + (b - a) = omega arith in z) least
+
     module _ (low : leZ (pos 0) (s .least) ≡ true) where
       pub lowest-self-is : answer (gives a) n ≡ answerTo w (Lowest a b)
       unfolding replyOf readsOf
       lowest-self-is = answer-is w (Lowest a b) (gives a) n
-          (ap gives (answers.lowest-self w a (b - a) (s .least) (subst (λ j. Least w a j (s .least)) (let z : b ≡ a + (b - a) = omega arith in z) least) (omega zarith)))
+          (ap gives (answers.lowest-self w a (b - a) (s .least) fell (omega zarith)))
           (rw apart (settles (λ x. forward h w a (x .least) .1) (λ x. leZ (pos 0) (x .least)) low))
 
     module _ (low : leZ (pos 0) (s .least) ≡ false) where
-      fell : Least w a (a + (b - a)) (s .least)
-      fell = subst (λ j. Least w a j (s .least)) (let z : b ≡ a + (b - a) = omega arith in z) least
-
       lowest-at : (o : Option ℕ) → forward h w a (s .least) .0 ≡ o → found o ≡ gives (lowest w a (b - a))
-      lowest-at none e = absurd (answers.lowest-some w a (b - a) (s .least) fell (omega zarith) (omega arith) (forward-none h w (over w) a (s .least) (omega arith) e))
-      lowest-at (some q) e = ap gives (sym (answers.lowest-by w a (b - a) (s .least) fell (omega zarith) q (forward-some h w (over w) a (s .least) (omega arith) q e)))
+      lowest-at none e = absurd (answers.lowest-some w a (b - a) (s .least) fell (omega zarith) (omega arith)
+          (forward-none h w (over w) a (s .least) (omega arith) e))
+      lowest-at (some q) e = ap gives (sym (answers.lowest-by w a (b - a) (s .least) fell (omega zarith) q
+          (forward-some h w (over w) a (s .least) (omega arith) q e)))
 
       pub lowest-is : (x : Reach) → forward h w a (s .least) ≡ x → answer (found (x .0)) (n + x .1) ≡ answerTo w (Lowest a b)
       unfolding replyOf readsOf

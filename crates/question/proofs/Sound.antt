@@ -24,7 +24,8 @@ module _ (w : List Bool) where
   by-node : (a : ℕ) (rest : Checks) (q : Question) → (IsNode w a → Sound w (unless rest q)) → Sound w (unless (node w a rest) q)
   by-node a rest q k =
       by-check w (not (ltb a (length w))) 11 ((not (getD w a false), 13) ∷ rest) q λ e.
-      by-check w (not (getD w a false)) 12 rest q λ d. k (record { below = ltb-true a (length w) (not-not (ltb a (length w)) e); opens = not-not (getD w a false) d })
+      by-check w (not (getD w a false)) 12 rest q λ d.
+      k (record { below = ltb-true a (length w) (not-not (ltb a (length w)) e); opens = not-not (getD w a false) d })
 
   by-closing : (a : ℕ) (q : Question) → (IsClosing w a → Sound w q) → Sound w (unless (closing w a) q)
   by-closing a q k =

@@ -53,16 +53,16 @@ answer-to-spec =
     (λ c κs. let s = c .before .before .before .before in (s .pre .0, sound-at (s .pre .0) (c .before .q11 .given .1) (s .pre .1)))
     (λ c. search needs)
     (λ c κs. let s = c .before .before .before .before in
-        let p = sound-at (s .pre .0) (c .before .q12 .given .1) (s .pre .1) in
-        (s .pre .0, p .0, p .1))
+    let p = sound-at (s .pre .0) (c .before .q12 .given .1) (s .pre .1) in
+    (s .pre .0, p .0, p .1))
     (λ c. search needs)
     (λ c κs. let s = c .before .before .before .before in
-        let p = sound-at (s .pre .0) (c .before .q13 .given .1) (s .pre .1) in
-        (s .pre .0, p .0, omega (arith, p, long (row (s .pre .0)))))
+    let p = sound-at (s .pre .0) (c .before .q13 .given .1) (s .pre .1) in
+    (s .pre .0, p .0, omega (arith, p, long (row (s .pre .0)))))
     (λ c. search needs)
     (λ c κs. let s = c .before .before .before .before in
-        let p = sound-at (s .pre .0) (c .before .q14 .given .1) (s .pre .1) in
-        (s .pre .0, p .0, p .1))
+    let p = sound-at (s .pre .0) (c .before .q14 .given .1) (s .pre .1) in
+    (s .pre .0, p .0, p .1))
     (λ c. search needs)
     (λ c κs. search needs)
     (λ c. told-at _ (c .before .before .q .given .1) (c .depth .ensures))

@@ -41,7 +41,7 @@ returns-2 c =
     let a = s .args in
     let by = through (back-near (a .b) (s .fits .b)) (c .before .before .back-by .ensures) in
     c .reached .ensures ∙ ancestor-told r (s .pre .1) (a .b) (c .before .before .before .if1 .left)
-        (c .before .backward .ensures ∙ ap (backward (height (a .m)) (word (a .bytes .now) (a .m)) (a .a)) by)
+    (c .before .backward .ensures ∙ ap (backward (height (a .m)) (word (a .bytes .now) (a .m)) (a .a)) by)
 
 pub ancestor-spec : {M : Type 1} → statement M
 ancestor-spec = tie.close (tie.spec answered-requires returns back-by-requires backward-requires reached-requires returns-2)

@@ -52,7 +52,7 @@ returns c =
     let t = range-near r _ _ (p .0) (p .1) (c .before .before .before .before .before .before .range .ensures) in
     let n = s .args .e .reads + c .before .before .before .before .before .before .range .result .reads in
     c .answered .ensures ∙ ap (λ i. replied (gives i) n) (c .before .before .before .counted .ensures ∙ ap P (t .count-back))
-        ∙ children-told r (s .pre .1) (s .pre .2) (s .pre .3) (c .before .before .before .before .before .before .range .ensures)
+    ∙ children-told r (s .pre .1) (s .pre .2) (s .pre .3) (c .before .before .before .before .before .before .range .ensures)
 
 pub between-spec : {M : Type 1} → statement M
 between-spec = tie.close (tie.spec add-range sub-range range-requires counted-requires add-answered answered-requires returns)

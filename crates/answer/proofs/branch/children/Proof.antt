@@ -21,7 +21,8 @@ opens-requires c κs =
     omega (arith, next-in r (s .pre .1))
 
 between-requires : tie.Need-between-requires
-between-requires c κs = let s = c .before .before .before .before in (s .pre .0, s .pre .1, c .before .before .end-of .ensures, sym (c .before .opens .ensures) ∙ c .if1 .taken)
+between-requires c κs = let s = c .before .before .before .before in
+    (s .pre .0, s .pre .1, c .before .before .end-of .ensures, sym (c .before .opens .ensures) ∙ c .if1 .taken)
 
 returns : tie.Need-returns
 returns c = c .between .ensures
@@ -33,7 +34,7 @@ returns-2 : tie.Need-returns-2
 returns-2 c =
     let s = c .before .before .before .before .before in let r = row (s .pre .0) in
     c .answered .ensures
-        ∙ childless-told r (s .pre .1) (c .before .before .before .end-of .ensures) (c .before .before .opens .ensures) (c .before .if1 .left)
+    ∙ childless-told r (s .pre .1) (c .before .before .before .end-of .ensures) (c .before .before .opens .ensures) (c .before .if1 .left)
 
 pub children-spec : {M : Type 1} → statement M
 children-spec = tie.close (tie.spec end-of-requires add-opens opens-requires between-requires returns answered-requires returns-2)

@@ -24,7 +24,7 @@ returns-2 : tie.Need-returns-2
 returns-2 c =
     let s = c .before .before .before .before .before .before in let r = row (s .pre .0) in
     c .answered2 .ensures ∙ held-told r (s .pre .1) (c .before .before .before .before .end-of .ensures) (s .pre .2)
-        (c .before .before .before .if1 .left) (c .before .if2 .taken)
+    (c .before .before .before .if1 .left) (c .before .if2 .taken)
 
 answered-requires-3 : tie.Need-answered-requires-3
 answered-requires-3 c κs = search needs
@@ -33,7 +33,7 @@ returns-3 : tie.Need-returns-3
 returns-3 c =
     let s = c .before .before .before .before .before .before in let r = row (s .pre .0) in
     c .answered3 .ensures ∙ beyond-told r (s .pre .1) (c .before .before .before .before .end-of .ensures) (s .pre .2)
-        (c .before .before .before .if1 .left) (c .before .if2 .left)
+    (c .before .before .before .if1 .left) (c .before .if2 .left)
 
 pub holds-spec : {M : Type 1} → statement M
 holds-spec = tie.close (tie.spec end-of-requires answered-requires returns answered-requires-2 returns-2 answered-requires-3 returns-3)

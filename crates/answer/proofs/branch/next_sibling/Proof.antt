@@ -27,7 +27,7 @@ returns-2 : tie.Need-returns-2
 returns-2 c =
     let s = c .before .before .before .before .before .before in let r = row (s .pre .0) in
     c .answered .ensures ∙ sibling-told r (s .pre .1) (c .before .before .before .before .end-of .ensures) (c .before .before .before .if1 .left)
-        (c .before .before .opens .ensures) (c .before .if2 .taken)
+    (c .before .before .opens .ensures) (c .before .if2 .taken)
 
 missed-requires-2 : tie.Need-missed-requires-2
 missed-requires-2 c κs = search needs
@@ -36,7 +36,7 @@ returns-3 : tie.Need-returns-3
 returns-3 c =
     let s = c .before .before .before .before .before .before in let r = row (s .pre .0) in
     c .missed2 .ensures ∙ no-sibling r (s .pre .1) (c .before .before .before .before .end-of .ensures) (c .before .before .before .if1 .left)
-        (c .before .before .opens .ensures) (c .before .if2 .left)
+    (c .before .before .opens .ensures) (c .before .if2 .left)
 
 pub next-sibling-spec : {M : Type 1} → statement M
 next-sibling-spec =

@@ -29,7 +29,7 @@ returns c =
     let s = c .before .before .before .before .before in let r = row (s .pre .0) in
     let t = deep r (s .pre .1) (c .before .before .before .prefix .ensures) in
     c .answered .ensures ∙ ap (λ i. replied (gives i) (c .before .before .before .prefix .result .reads)) (c .before .natural .ensures ∙ ap P (t .back))
-        ∙ depth-told r (s .pre .1) (c .before .before .before .prefix .ensures)
+    ∙ depth-told r (s .pre .1) (c .before .before .before .prefix .ensures)
 
 pub depth-spec : {M : Type 1} → statement M
 depth-spec = tie.close (tie.spec prefix-requires natural-requires answered-requires returns)

@@ -36,8 +36,8 @@ returns c =
     let s = c .before .before .before .before .before in let r = row (s .pre .0) in
     let t = deep r (s .pre .1) (c .before .before .before .prefix .ensures) in
     c .answered .ensures
-        ∙ ap (λ i. replied (gives ((s .args .a + i) / 2)) (c .before .before .before .prefix .result .reads)) (c .before .natural .ensures ∙ ap P (t .back))
-        ∙ number-told r (s .pre .1) (c .before .before .before .prefix .ensures)
+    ∙ ap (λ i. replied (gives ((s .args .a + i) / 2)) (c .before .before .before .prefix .result .reads)) (c .before .natural .ensures ∙ ap P (t .back))
+    ∙ number-told r (s .pre .1) (c .before .before .before .prefix .ensures)
 
 pub number-spec : {M : Type 1} → statement M
 number-spec = tie.close (tie.spec prefix-requires natural-requires add-answered answered-requires returns)

@@ -26,7 +26,7 @@ returns c =
     let s = c .before .before .before .before .before .before .before in let r = row (s .pre .0) in
     let t = range-near r _ _ (s .pre .1) (s .pre .2) (c .before .before .before .before .before .range .ensures) in
     c .answered .ensures ∙ lowest-here r (s .pre .1) (s .pre .2) (c .before .before .before .before .before .range .ensures)
-        (decided (pos 0) (t .least-back) (c .before .before .not-negative .ensures) (c .before .if1 .taken))
+    (decided (pos 0) (t .least-back) (c .before .before .not-negative .ensures) (c .before .if1 .taken))
 
 wide-requires : tie.Need-wide-requires
 wide-requires c κs = search needs
@@ -51,8 +51,8 @@ returns-2 c =
     let a = s .args in
     let by = through (t .least-small) (c .before .before .wide .ensures ∙ t .least-back) in
     c .reached .ensures ∙ lowest-told r (s .pre .1) (s .pre .2) (c .before .before .before .before .before .before .before .range .ensures)
-        (decided (pos 0) (t .least-back) (c .before .before .before .before .not-negative .ensures) (c .before .before .before .if1 .left))
-        (c .before .forward .ensures ∙ ap (forward (height (a .m)) (word (a .bytes .now) (a .m)) (a .a)) by)
+    (decided (pos 0) (t .least-back) (c .before .before .before .before .not-negative .ensures) (c .before .before .before .if1 .left))
+    (c .before .forward .ensures ∙ ap (forward (height (a .m)) (word (a .bytes .now) (a .m)) (a .a)) by)
 
 pub lower-spec : {M : Type 1} → statement M
 lower-spec =

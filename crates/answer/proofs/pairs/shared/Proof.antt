@@ -31,7 +31,7 @@ returns c =
     let below = node-in r (s .pre .2) in
     let t = range-near r _ _ (s .pre .3) (omega arith) (c .before .before .before .before .before .range .ensures) in
     c .answered .ensures ∙ nearest-here r (s .pre .3) (omega arith) (c .before .before .before .before .before .range .ensures) (s .pre .1) (s .pre .2)
-        (decided (pos 1) (t .least-back) (c .before .before .positive .ensures) (c .before .if1 .taken))
+    (decided (pos 1) (t .least-back) (c .before .before .positive .ensures) (c .before .if1 .taken))
 
 less-one-requires : tie.Need-less-one-requires
 less-one-requires c κs = search needs
@@ -59,9 +59,9 @@ returns-2 c =
     let a = s .args in
     let by = through (t .less-small) (c .before .before .less-one .ensures ∙ ap (λ y. y -ℤ pos 1) (t .least-back)) in
     c .reached .ensures ∙ nearest-told r (s .pre .3) (omega arith) (c .before .before .before .before .before .before .before .range .ensures)
-        (s .pre .1) (s .pre .2)
-        (decided (pos 1) (t .least-back) (c .before .before .before .before .positive .ensures) (c .before .before .before .if1 .left))
-        (c .before .backward .ensures ∙ ap (backward (height (a .m)) (word (a .bytes .now) (a .m)) (a .a)) by)
+    (s .pre .1) (s .pre .2)
+    (decided (pos 1) (t .least-back) (c .before .before .before .before .positive .ensures) (c .before .before .before .if1 .left))
+    (c .before .backward .ensures ∙ ap (backward (height (a .m)) (word (a .bytes .now) (a .m)) (a .a)) by)
 
 pub shared-spec : {M : Type 1} → statement M
 shared-spec =
