@@ -1,10 +1,11 @@
 -- A signed number that is not negative, cast to an unsigned one. Assumes nothing.
-use mathlib.Core.Path.{_≡_}
+use mathlib.Core.Path.{_≡_, sym, ap, _∙_}
+use mathlib.Core.Bool.{Bool}
 use Prim.Native.Nat.{ℕ, _≤_, _<_}
 use native.Mathlib.Omega.{arith}
 use lib.Dec.{T}
 use lib.IntN.{ℤ, pos, negℤ, natAbs, _-ℤ_}
-use lib.Signed.{_≤ℤ_, nonNeg}
+use lib.Signed.{leZ, _≤ℤ_, nonNeg}
 use mir.Syntax.{w32, w64}
 use mir.Val.{Fits, SFits, toZ, ofZ}
 use mir.Facts.{toZ-pos, toZ-ofZ}
@@ -39,3 +40,11 @@ back-64 x h = toZ-ofZ (small64 x (omega arith))
 
 pub back-32 : (x : ℤ) → natAbs x ≤ 2097152 → toZ w32 (ofZ w32 x) ≡ x
 back-32 x h = toZ-ofZ (small x (omega arith))
+
+-- so is one that a step made of a small number
+pub through : {x y : ℤ} → natAbs y ≤ 8589934592 → x ≡ y → toZ w64 (ofZ w64 x) ≡ y
+through {x} {y} h e = rw e (back-64 y h)
+
+-- a test of a number read back tells of the number
+pub decided : (k : ℤ) {x y : ℤ} {b t : Bool} → x ≡ y → b ≡ leZ k x → b ≡ t → leZ k y ≡ t
+decided k z e d = ap (leZ k) (sym z) ∙ sym e ∙ d

@@ -1,7 +1,8 @@
 // Kinds 4, 8, 9, 10, 11 and 14: what lies in a node's branch, and where the branch ends.
 ghost use mathlib.Core.Path.{_≡_};
-ghost use Prim.Native.Nat.{_<_};
-ghost use Rattle.word.specs.Bits.{word};
+ghost use mathlib.Core.Bool.{true};
+ghost use Prim.Native.Nat.{_+_};
+ghost use Rattle.word.specs.Bits.{bit, word};
 ghost use Rattle.question.specs.Places.{IsNode};
 ghost use Rattle.question.specs.Answer.{answerTo};
 ghost use Rattle.answer.specs.Ready.{Ready, Row, Ends};
@@ -42,16 +43,24 @@ pub(crate) fn branch(bytes: &[u8], m: usize, index: &[i32], l: usize, a: usize) 
     give::answered((e.past - a) / 2, e.reads)
 }
 
-// Kind 9. The children are the boundaries between a's opening and its closing that reach the least depth there.
+// Kind 9, of a node that is no leaf. The children are the boundaries between a's opening and its closing that reach the least depth there.
+fn between(bytes: &[u8], m: usize, index: &[i32], l: usize, a: usize, e: End) -> Answer
+    requires { ⌜ Ready (now bytes) (now index) m l × IsNode (word (now bytes) m) a × Ends (now bytes) m a e × (bit (now bytes) (a + 1) ≡ true) ⌝ }
+    ensures { λ r. ⌜ r ≡ answerTo (word (now (bytes .entry)) m) (Question.Children a) ⌝ }
+{
+    let r = range::range(bytes, m, index, l, a + 1, e.past - 1);
+    let s = r.summary;
+    give::answered(signed::counted(s.count), e.reads + r.reads)
+}
+
+// Kind 9. The next bit shows a leaf.
 pub(crate) fn children(bytes: &[u8], m: usize, index: &[i32], l: usize, a: usize) -> Answer
     requires { ⌜ Ready (now bytes) (now index) m l × IsNode (word (now bytes) m) a ⌝ }
     ensures { λ r. ⌜ r ≡ answerTo (word (now (bytes .entry)) m) (Question.Children a) ⌝ }
 {
     let e = end_of(bytes, m, index, l, a);
     if word::opens(bytes, a + 1) {
-        let r = range::range(bytes, m, index, l, a + 1, e.past - 1);
-        let s = r.summary;
-        return give::answered(signed::counted(s.count), e.reads + r.reads);
+        return between(bytes, m, index, l, a, e);
     }
     give::answered(0, e.reads)
 }

@@ -40,7 +40,22 @@ pub(crate) fn nearest(bytes: &[u8], m: usize, index: &[i32], l: usize, a: usize,
     shared(bytes, m, index, l, b, a)
 }
 
-// Kind 13. Where no later boundary is lower, a is the answer; else "13 forward by that least".
+// Kind 13 of two different boundaries. Where no later boundary is lower, a is the answer; else "13 forward by that least".
+fn lower(bytes: &[u8], m: usize, index: &[i32], l: usize, a: usize, b: usize) -> Answer
+    requires { ⌜ Ready (now bytes) (now index) m l × (a < b) × (b ≤ m) ⌝ }
+    ensures { λ r. ⌜ r ≡ answerTo (word (now (bytes .entry)) m) (Question.Lowest a b) ⌝ }
+{
+    let r = range::range(bytes, m, index, l, a, b);
+    let s = r.summary;
+    let least = s.least;
+    if signed::not_negative(least) {
+        return give::answered(a, r.reads);
+    }
+    let by = walk::wide(least);
+    give::reached(forward::forward(bytes, m, index, l, a, by), r.reads)
+}
+
+// Kind 13.
 pub(crate) fn lowest(bytes: &[u8], m: usize, index: &[i32], l: usize, a: usize, b: usize) -> Answer
     requires { ⌜ Ready (now bytes) (now index) m l × (a ≤ b) × (b ≤ m) ⌝ }
     ensures { λ r. ⌜ r ≡ answerTo (word (now (bytes .entry)) m) (Question.Lowest a b) ⌝ }
@@ -48,14 +63,5 @@ pub(crate) fn lowest(bytes: &[u8], m: usize, index: &[i32], l: usize, a: usize, 
     if a == b {
         return give::answered(a, 0);
     }
-    let r = range::range(bytes, m, index, l, a, b);
-    let s = r.summary;
-    let least = s.least;
-    if signed::not_negative(least) {
-        return give::answered(a, r.reads);
-    }
-    give::reached(
-        forward::forward(bytes, m, index, l, a, walk::wide(least)),
-        r.reads,
-    )
+    lower(bytes, m, index, l, a, b)
 }

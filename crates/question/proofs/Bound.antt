@@ -1,9 +1,9 @@
 -- No question reads more than four times the index's height. Assumes nothing.
-use mathlib.Core.Path.{_≡_, refl, sym, ap, subst, _∙_}
+use mathlib.Core.Path.{_≡_, refl}
 use mathlib.Core.Bool.{Bool, true, false, cond}
 use mathlib.Core.List.{List}
 use mathlib.Core.Option.{Option, none, some}
-use Prim.Native.Nat.{ℕ, zero, suc, _+_, _-_, _*_, _/_, _^_, _≤_, _<_, min, max}
+use Prim.Native.Nat.{ℕ, suc, _+_, _-_, _*_, _/_, _^_, _≤_, _<_, min, max}
 use native.Mathlib.Omega.{arith}
 use native.Mathlib.Decide.{ℕ-discrete}
 use borrow.Author.Tests.{eq-eqb, ne-eqb}
@@ -27,7 +27,6 @@ use Rattle.question.specs.declared.Question.{Question}
 use Rattle.question.specs.declared.Question.the-variants.{Depth, Number, WithNumber, Closing, Opening, Parent, Ancestor, Branch, Children, FirstChild, NextSibling, Nearest, Lowest, Holds, Refused}
 use Rattle.question.specs.Decode.{decodeOf}
 use Rattle.question.specs.Reads.{orZero, readsOf, nearestReads, lowestReads}
-use Rattle.question.specs.Answer.{answerOf, answerTo}
 use Rattle.question.specs.Places.{IsNode, Sound}
 use Rattle.question.proofs.Sound.{decode-sound}
 use Rattle.question.proofs.Answers.{ends-some}
@@ -51,7 +50,11 @@ module _ (w : List Bool) (balanced : isBalanced w ≡ true) where
   children-few a n none e true d = absurd (ends-some w balanced a (n .opens) e)
   children-few a n (some q) e true d =
       let s = forward-some h w over a (pos 0) (n .below) q e in
-      omega (arith, forward-reads h w over a (pos 0) (n .below), range-reads h w over (suc a) (q - 1) (omega (arith, opens-longer w a q (n .opens) s d)) (omega (arith, s .within)))
+      omega (
+        arith,
+        forward-reads h w over a (pos 0) (n .below),
+        range-reads h w over (suc a) (q - 1) (omega (arith, opens-longer w a q (n .opens) s d)) (omega (arith, s .within)),
+      )
 
   pub reads-few : (q : Question) → Sound w q → readsOf h w q ≤ 4 * h
   unfolding readsOf
@@ -61,7 +64,8 @@ module _ (w : List Bool) (balanced : isBalanced w ≡ true) where
   reads-few (Closing a) n = omega (arith, forward-reads h w over a (pos 0) (n .below))
   reads-few (Opening a) n = omega (arith, backward-reads h w over (suc a) (pos 0) (n .below))
   reads-few (Parent a) n = omega (arith, backward-reads h w over a (negsuc 0) (omega (arith, n .below)))
-  reads-few (Ancestor a b) n = at-most (eqb b 0) 0 (backward h w a (negℤ (pos b)) .1) (4 * h) (omega arith) (omega (arith, backward-reads h w over a (negℤ (pos b)) (omega (arith, n .below))))
+  reads-few (Ancestor a b) n = at-most (eqb b 0) 0 (backward h w a (negℤ (pos b)) .1) (4 * h) (omega arith)
+      (omega (arith, backward-reads h w over a (negℤ (pos b)) (omega (arith, n .below))))
   reads-few (Branch a) n = omega (arith, forward-reads h w over a (pos 0) (n .below))
   reads-few (Children a) n = children-few a n (forward h w a (pos 0) .0) refl (getD w (suc a) false) refl
   reads-few (FirstChild a) n = omega arith
@@ -69,7 +73,9 @@ module _ (w : List Bool) (balanced : isBalanced w ≡ true) where
   reads-few (Nearest a b) n = apart (ℕ-discrete a b)
     where
       walks : (l : ℤ) (k : ℕ) → k ≤ 2 * h - 2 → k + cond (leZ (pos 1) l) 0 (backward h w (min a b) (l -ℤ pos 1) .1) ≤ 4 * h
-      walks l k m = let z = at-most (leZ (pos 1) l) 0 (backward h w (min a b) (l -ℤ pos 1) .1) (2 * h - 1) (omega arith) (backward-reads h w over (min a b) (l -ℤ pos 1) (omega (arith, n .0 .below))) in omega arith
+      walks l k m =
+          let few = backward-reads h w over (min a b) (l -ℤ pos 1) (omega (arith, n .0 .below)) in
+          let z = at-most (leZ (pos 1) l) 0 (backward h w (min a b) (l -ℤ pos 1) .1) (2 * h - 1) (omega arith) few in omega arith
 
       apart : Dec (a ≡ b) → cond (eqb a b) 0 (nearestReads h w (min a b) (max a b)) ≤ 4 * h
       apart (yes e) = rw (eq-eqb a b e) (omega arith)
@@ -79,7 +85,9 @@ module _ (w : List Bool) (balanced : isBalanced w ≡ true) where
   reads-few (Lowest a b) n = apart (ℕ-discrete a b)
     where
       walks : a < b → (l : ℤ) (k : ℕ) → k ≤ 2 * h - 2 → k + cond (leZ (pos 0) l) 0 (forward h w a l .1) ≤ 4 * h
-      walks d l k m = let z = at-most (leZ (pos 0) l) 0 (forward h w a l .1) (2 * h - 1) (omega arith) (forward-reads h w over a l (omega (arith, n))) in omega arith
+      walks d l k m =
+          let few = forward-reads h w over a l (omega (arith, n)) in
+          let z = at-most (leZ (pos 0) l) 0 (forward h w a l .1) (2 * h - 1) (omega arith) few in omega arith
 
       apart : Dec (a ≡ b) → cond (eqb a b) 0 (lowestReads h w a b) ≤ 4 * h
       apart (yes e) = rw (eq-eqb a b e) (omega arith)

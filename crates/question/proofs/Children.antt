@@ -2,17 +2,16 @@
 use mathlib.Core.Path.{_≡_, refl, sym, ap, ap₂, subst, _∙_}
 use mathlib.Core.Bool.{Bool, true, false, cond}
 use mathlib.Core.List.{List}
-use mathlib.Core.Option.{Option, none, some}
-use Prim.Native.Nat.{ℕ, zero, suc, pred, _+_, _-_, _≤_, _<_}
+use mathlib.Core.Option.{some}
+use Prim.Native.Nat.{ℕ, suc, pred, _+_, _-_, _≤_, _<_}
 use native.Mathlib.Omega.{arith}
 use lib.ListN.{length, take, drop, getD}
-use lib.IntN.{ℤ, pos, _+ℤ_, _-ℤ_}
+use lib.IntN.{pos, _+ℤ_}
 use Rattle.word.specs.Forest.{Forest, empty, tree, encode, D}
 use Rattle.word.specs.Parse.{isBalanced, forestOf}
 use Rattle.word.specs.Signed.{P}
 use Rattle.word.specs.Depth.{Forward}
-use Rattle.word.specs.Questions.{roots, children}
-use Rattle.word.proofs.Parse.{encode-forestOf}
+use Rattle.word.specs.Questions.{roots}
 use Rattle.word.proofs.Signed.{zarith, +law, -law}
 use Rattle.word.proofs.Depth.{D-up, D-down, bit-in}
 use Rattle.word.proofs.Answers.{Kids, forward-found, children-by}
@@ -20,7 +19,6 @@ use Rattle.summary.specs.declared.Summary.{Summary}
 use Rattle.summary.specs.Stretch.{summaryOf}
 use Rattle.summary.proofs.Balanced.{roots-summary}
 use Rattle.index.specs.Shape.{height}
-use Rattle.index.proofs.Height.{height-reaches}
 use Rattle.walk.specs.Forward.{forward}
 use Rattle.walk.specs.Range.{range}
 use Rattle.walk.proofs.Forward.{forward-some}
@@ -30,6 +28,7 @@ use Rattle.question.specs.Reply.{gives, found, replyOf}
 use Rattle.question.specs.Reads.{orZero, readsOf}
 use Rattle.question.specs.Answer.{answerTo}
 use Rattle.question.proofs.Answers.{answer, answer-is}
+use Rattle.question.proofs.Word.{over, forest-is, on-forest, node-on}
 
 -- the bit after a node's opening tells a leaf: it opens exactly where the branch is longer than two bits
 module _ (w : List Bool) (a q : ℕ) (opens : getD w a false ≡ true) (ends : Forward w a (pos 0) q) where
@@ -52,15 +51,15 @@ module _ (w : List Bool) (a q : ℕ) (opens : getD w a false ≡ true) (ends : F
     where
       not-past : suc (suc a) < q → ⊥
       not-past l = ends .first (suc (suc a)) (omega arith) l
-          (let d : D w (suc (suc a)) ≡ D w a +ℤ pos 0 = omega (zarith, D-up w a opens, D-down w (suc a) o, +law (D w a) (pos 0), +law (D w a) (pos 1), -law (D w (suc a)) (pos 1)) in d)
+          (let d : D w (suc (suc a)) ≡ D w a +ℤ pos 0 =
+          omega (zarith, D-up w a opens, D-down w (suc a) o, +law (D w a) (pos 0), +law (D w a) (pos 1), -law (D w (suc a)) (pos 1)) in d)
 
 -- so a node's opening is never the last bit
 pub next-inside : (w : List Bool) → isBalanced w ≡ true → (a : ℕ) → getD w a false ≡ true → suc a < length w
 next-inside w balanced a o =
-    let is = encode-forestOf w balanced in
-    let o′ = subst (λ u. getD u a false ≡ true) (sym is) o in
+    let o′ = node-on w balanced a o in
     let e = forward-found (forestOf w) a o′ in
-    subst (λ u. suc a < length u) is (omega (arith, past-one (encode (forestOf w)) a _ o′ e, e .within))
+    subst (λ u. suc a < length u) (forest-is w balanced) (omega (arith, past-one (encode (forestOf w)) a _ o′ e, e .within))
 
 -- the summary of the kids' word counts its roots
 rooted : (k : Forest) → (k ≡ empty → ⊥) → P (summaryOf (encode k) .count) ≡ roots k
@@ -74,21 +73,19 @@ module _ (w : List Bool) (balanced : isBalanced w ≡ true) (a q n : ℕ) (opens
   abbrev h : ℕ
   h = height (length w)
 
-  is : encode f ≡ w
-  is = encode-forestOf w balanced
-
   module _ (past : forward h w a (pos 0) .0 ≡ some q) (reads : forward h w a (pos 0) .1 ≡ n) where
     ends : Forward w a (pos 0) q
-    ends = forward-some h w (height-reaches (length w)) a (pos 0) (bit-in w a false opens) q past
+    ends = forward-some h w (over w) a (pos 0) (bit-in w a false opens) q past
 
     kids : Kids f a q
-    kids = children-by f a (subst (λ u. getD u a false ≡ true) (sym is) opens) q (subst (λ u. Forward u a (pos 0) q) (sym is) ends)
+    kids = children-by f a (node-on w balanced a opens) q (on-forest w balanced (λ u. Forward u a (pos 0) q) ends)
 
     pub children-none : getD w (suc a) true ≡ false → answer (gives 0) n ≡ answerTo w (Children a)
     unfolding replyOf readsOf
     children-none o = answer-is w (Children a) (gives 0) n
         (ap found (kids .answer ∙ ap (λ k. some (roots k)) (kids .leaf .1 (closes-two w a q opens ends o))))
-        (ap₂ (λ i t. i + cond t (range h w (suc a) (orZero (forward h w a (pos 0) .0) - 1) .1) 0) reads (shut (getD w (suc a) false) refl) ∙ (let z : n + 0 ≡ n = omega arith in z))
+        (ap₂ (λ i t. i + cond t (range h w (suc a) (orZero (forward h w a (pos 0) .0) - 1) .1) 0) reads (shut (getD w (suc a) false) refl)
+        ∙ (let z : n + 0 ≡ n = omega arith in z))
       where
         shut : (t : Bool) → getD w (suc a) false ≡ t → getD w (suc a) false ≡ false
         shut false e = e
@@ -107,8 +104,8 @@ module _ (w : List Bool) (balanced : isBalanced w ≡ true) (a q n : ℕ) (opens
         where
           counts : (s : Summary) → range h w (suc a) (q - 1) .0 ≡ s → P (s .count) ≡ roots (kids .kids)
           counts s d =
-              ap (λ (x : Summary). P (x .count)) (sym d ∙ range-is h w (height-reaches (length w)) (suc a) (q - 1) (between .0) (between .1) ∙ ap summaryOf bits)
+              ap (λ (x : Summary). P (x .count)) (sym d ∙ range-is h w (over w) (suc a) (q - 1) (between .0) (between .1) ∙ ap summaryOf bits)
               ∙ rooted (kids .kids) (λ z. omega (arith, opens-longer w a q opens ends o, kids .leaf .0 z))
             where
               bits : take (q - 1 - suc a) (drop (suc a) w) ≡ encode (kids .kids)
-              bits = ap₂ (λ i u. take (i - suc a) (drop (suc a) u)) (let z : q - 1 ≡ pred q = omega arith in z) (sym is) ∙ kids .bits
+              bits = ap₂ (λ i u. take (i - suc a) (drop (suc a) u)) (let z : q - 1 ≡ pred q = omega arith in z) (sym (forest-is w balanced)) ∙ kids .bits

@@ -1,10 +1,10 @@
 -- Demand 3 over the answers themselves: code and result of questions on one accepted word. Assumes nothing.
-use mathlib.Core.Path.{_≡_, refl, sym, ap, ap₂, subst, _∙_}
+use mathlib.Core.Path.{_≡_, refl, sym, ap, subst, _∙_}
 use mathlib.Core.Logic.{_↔_}
-use mathlib.Core.Bool.{Bool, true, false, cond, not}
-use mathlib.Core.List.{List, [], _∷_}
+use mathlib.Core.Bool.{Bool, true, false, cond}
+use mathlib.Core.List.{List, []}
 use mathlib.Core.Option.{Option, none, some}
-use Prim.Native.Nat.{ℕ, zero, suc, _+_, _≤_, _<_}
+use Prim.Native.Nat.{ℕ, _+_, _≤_, _<_}
 use native.Mathlib.Omega.{arith}
 use borrow.Author.Tests.{lt-ltb}
 use lib.Dec.{eqb}
@@ -12,14 +12,13 @@ use lib.ListN.{length, getD}
 use Rattle.word.specs.Forest.{Forest, encode}
 use Rattle.word.specs.Parse.{isBalanced, forestOf}
 use Rattle.word.specs.Questions.{number, ancestor, branch, nearest, holds}
-use Rattle.word.proofs.Parse.{encode-forestOf}
 use Rattle.word.proofs.Depth.{bit-in}
 use Rattle.word.proofs.Demands.{andThen, meet, climb-climb, ancestor-node, nearest-node, meet-assoc, nearest-comm, nearest-self, holds-nearest, holds-run}
-use Rattle.judge.specs.First.{firstOf}
 use Rattle.question.specs.declared.Question.{Question}
 use Rattle.question.specs.declared.Question.the-variants.{Number, Ancestor, Branch, Nearest, Holds}
 use Rattle.question.specs.Decode.{node, unless, decodeOf}
-use Rattle.question.specs.Reply.{Reply, gives, refused, found, replyOf}
+use Rattle.question.specs.Reply.{Reply, gives, found, replyOf}
+use Rattle.question.proofs.Word.{forest-is, node-on}
 
 -- code and result that a question gets
 abbrev pub asked : List Bool → ℕ → ℕ → ℕ → Reply
@@ -40,18 +39,15 @@ module _ (w : List Bool) (balanced : isBalanced w ≡ true) where
   abbrev f : Forest
   f = forestOf w
 
-  is : encode f ≡ w
-  is = encode-forestOf w balanced
-
   -- a place of the accepted word that stands for a node
   abbrev pub Node : ℕ → Type 0
   Node a = getD w a false ≡ true
 
   node-of : (a : ℕ) → Node a → getD (encode f) a false ≡ true
-  node-of a o = subst (λ u. getD u a false ≡ true) (sym is) o
+  node-of = node-on w balanced
 
   node-to : (a : ℕ) → getD (encode f) a false ≡ true → Node a
-  node-to a o = subst (λ u. getD u a false ≡ true) is o
+  node-to a o = subst (λ u. getD u a false ≡ true) (forest-is w balanced) o
 
   passes : (a : ℕ) (q : Question) → Node a → unless (node w a []) q ≡ q
   passes a q o = rw (lt-ltb a (length w) (bit-in w a false o), o)

@@ -9,3 +9,4 @@ pub mod Marked
 pub mod Ranges
 pub mod Settled
 pub mod Sound
+pub mod Word

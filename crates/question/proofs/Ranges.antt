@@ -3,30 +3,27 @@ use mathlib.Core.Path.{_≡_, refl, sym, ap, ap₂, subst, _∙_}
 use mathlib.Core.Bool.{Bool, true, false, cond}
 use mathlib.Core.List.{List}
 use mathlib.Core.Option.{Option, none, some}
-use Prim.Native.Nat.{ℕ, zero, suc, pred, _+_, _-_, _*_, _/_, _^_, _≤_, _<_, min, max}
+use Prim.Native.Nat.{ℕ, _+_, _-_, _/_, _≤_, _<_, min, max}
 use native.Mathlib.Omega.{arith}
 use borrow.Author.Tests.{ne-eqb, eq-eqb, lt-ltb, le-ltb}
-use lib.Dec.{eqb, ltb}
-use lib.ListN.{length, take, drop, getD}
+use lib.Dec.{eqb}
+use lib.ListN.{length, take, getD}
 use lib.IntN.{ℤ, pos, _+ℤ_, _-ℤ_}
-use lib.Signed.{leZ, _≤ℤ_}
+use lib.Signed.{leZ}
 use Rattle.word.specs.Forest.{Forest, encode, count, D}
 use Rattle.word.specs.Parse.{isBalanced, forestOf}
 use Rattle.word.specs.Signed.{P}
-use Rattle.word.specs.Depth.{Forward, NoForward, Backward, NoBackward, Least}
+use Rattle.word.specs.Depth.{Backward, NoBackward, Least}
 use Rattle.word.specs.Questions.{withNumber, nearest, lowest}
-use Rattle.word.proofs.Parse.{encode-forestOf}
-use Rattle.word.proofs.Signed.{zarith, +law}
+use Rattle.word.proofs.Signed.{zarith}
 use lib.Seq.{take-length}
 use Rattle.word.proofs.Depth.{bit-in, rank-sum}
 use Rattle.word.proofs.Bridge.{even}
 use Rattle.word.proofs.Balance.{D-is-pos}
 use Rattle.word.proofs.Demands.{nearest-comm, nearest-self}
 use Rattle.word.proofs.Answers as answers
-use Rattle.summary.specs.Stretch.{summaryOf}
 use Rattle.summary.specs.declared.Summary.{Summary}
 use Rattle.index.specs.Shape.{height}
-use Rattle.index.proofs.Height.{height-reaches}
 use Rattle.walk.specs.Walk.{Reach}
 use Rattle.walk.specs.Forward.{forward}
 use Rattle.walk.specs.Backward.{backward}
@@ -38,13 +35,13 @@ use Rattle.walk.proofs.Backward.{backward-some, backward-none}
 use Rattle.walk.proofs.Prefix.{prefix-is}
 use Rattle.walk.proofs.Select.{select-some, select-none}
 use Rattle.walk.proofs.Range.{range-is}
-use Rattle.question.specs.declared.Question.{Question}
-use Rattle.question.specs.declared.Question.the-variants.{Depth, Number, WithNumber, Children, Nearest, Lowest}
-use Rattle.question.specs.Reply.{Reply, gives, refused, found, replyOf}
-use Rattle.question.specs.Reads.{readsOf, nearestReads, lowestReads}
+use Rattle.question.specs.declared.Question.the-variants.{Depth, Number, WithNumber, Nearest, Lowest}
+use Rattle.question.specs.Reply.{gives, refused, found, replyOf}
+use Rattle.question.specs.Reads.{readsOf, nearestReads}
 use Rattle.question.specs.Answer.{answerTo}
 use Rattle.question.proofs.Answers.{answer, answer-is}
 use Rattle.question.proofs.Least.{least-is}
+use Rattle.question.proofs.Word.{over, forest-is, on-forest, node-on}
 
 module _ (w : List Bool) (balanced : isBalanced w ≡ true) where
   abbrev f : Forest
@@ -53,31 +50,23 @@ module _ (w : List Bool) (balanced : isBalanced w ≡ true) where
   abbrev h : ℕ
   h = height (length w)
 
-  is : encode f ≡ w
-  is = encode-forestOf w balanced
-
-  of : (P : List Bool → Type 0) → P w → P (encode f)
-  of P = subst P (sym is)
-
-  over : length w ≤ 256 * 2 ^ h
-  over = height-reaches (length w)
-
   -- ---- kinds 1 and 2: D(a)
   module _ (a : ℕ) (opens : getD w a false ≡ true) (d : ℤ) (n : ℕ) (walked : prefix h w a ≡ (d, n)) where
     opens′ : getD (encode f) a false ≡ true
-    opens′ = of (λ u. getD u a false ≡ true) opens
+    opens′ = node-on w balanced a opens
 
     inside : a < length w
-    inside = subst (λ u. a < length u) is (bit-in (encode f) a false opens′)
+    inside = bit-in w a false opens
 
     D-is : D w a ≡ d
-    D-is = sym (prefix-is h w over a inside) ∙ ap (λ (x : ℤ × ℕ). x .0) walked
+    D-is = sym (prefix-is h w (over w) a inside) ∙ ap (λ (x : ℤ × ℕ). x .0) walked
 
     pub depth-nat : d ≡ pos (P d)
-    depth-nat = subst (λ z. z ≡ pos (P z)) (ap (λ u. D u a) is ∙ D-is) (D-is-pos f a (of (λ u. a ≤ length u) (omega (arith, inside))))
+    depth-nat = subst (λ z. z ≡ pos (P z)) (ap (λ u. D u a) (forest-is w balanced) ∙ D-is)
+        (D-is-pos f a (on-forest w balanced (λ u. a ≤ length u) (omega (arith, inside))))
 
     D-of : D (encode f) a ≡ pos (P d)
-    D-of = ap (λ u. D u a) is ∙ D-is ∙ depth-nat
+    D-of = ap (λ u. D u a) (forest-is w balanced) ∙ D-is ∙ depth-nat
 
     reads : prefix h w a .1 ≡ n
     reads = ap (λ (x : ℤ × ℕ). x .1) walked
@@ -93,19 +82,26 @@ module _ (w : List Bool) (balanced : isBalanced w ≡ true) where
 
   -- ---- kind 3
   half : count true w ≡ length w / 2
-  half = subst (λ u. count true u ≡ length u / 2) is (omega (arith, even f, ap (count true) (take-length (encode f)), ap (count false) (take-length (encode f)), rank-sum (encode f) (length (encode f)) (omega arith)))
+  half = subst (λ u. count true u ≡ length u / 2) (forest-is w balanced)
+      (omega (
+        arith,
+        even f,
+        ap (count true) (take-length (encode f)),
+        ap (count false) (take-length (encode f)),
+        rank-sum (encode f) (length (encode f)) (omega arith),
+      ))
 
   pub withNumber-past : (r : ℕ) → length w / 2 ≤ r → answer (refused 16) 0 ≡ answerTo w (WithNumber r)
   unfolding replyOf readsOf
   withNumber-past r l = answer-is w (WithNumber r) (refused 16) 0
-      (ap found (answers.withNumber-none f r .1 (of (λ u. count true u ≤ r) (omega (arith, half)))))
+      (ap found (answers.withNumber-none f r .1 (on-forest w balanced (λ u. count true u ≤ r) (omega (arith, half)))))
       (rw (le-ltb r (length w / 2) l))
 
   module _ (r : ℕ) (l : r < length w / 2) where
     sought : (o : Option ℕ) → select h w r .0 ≡ o → withNumber f r ≡ o
-    sought none e = absurd (omega (arith, half, select-none h w over r e))
-    sought (some q) e = let s = select-some h w over r q e in
-        answers.withNumber-by f q (of (λ u. getD u q false ≡ true) (s .0)) r (of (λ u. count true (take q u) ≡ r) (s .1))
+    sought none e = absurd (omega (arith, half, select-none h w (over w) r e))
+    sought (some q) e = let s = select-some h w (over w) r q e in
+        answers.withNumber-by f q (node-on w balanced q (s .0)) r (on-forest w balanced (λ u. count true (take q u) ≡ r) (s .1))
 
     pub withNumber-is : (x : Reach) → select h w r ≡ x → answer (found (x .0)) (x .1) ≡ answerTo w (WithNumber r)
     unfolding replyOf readsOf
@@ -121,7 +117,7 @@ module _ (w : List Bool) (balanced : isBalanced w ≡ true) where
     reads-are = ap (λ (x : Summary × ℕ). x .1) ranged
 
     least : Least w a b (s .least)
-    least = subst (λ (x : Summary). Least w a b (x .least)) (sym (range-is h w over a b l within) ∙ summary-is) (least-is w a b l within)
+    least = subst (λ (x : Summary). Least w a b (x .least)) (sym (range-is h w (over w) a b l within) ∙ summary-is) (least-is w a b l within)
 
     apart : eqb a b ≡ false
     apart = ne-eqb a b (λ e. omega arith)
@@ -137,20 +133,22 @@ module _ (w : List Bool) (balanced : isBalanced w ≡ true) where
       walks : enough s ≡ false → (k : ℕ) → next s ≡ k → both (range h w a b .0) (range h w a b .1) ≡ n + k
       walks e k d = ap₂ both summary-is reads-are ∙ ap (λ t. n + cond t 0 (next s)) e ∙ ap (λ i. n + i) d
 
+    fell : Least w a (a + (b - a)) (s .least)
+    fell = subst (λ j. Least w a j (s .least)) (let z : b ≡ a + (b - a) = omega arith in z) least
+
     module _ (low : leZ (pos 0) (s .least) ≡ true) where
       pub lowest-self-is : answer (gives a) n ≡ answerTo w (Lowest a b)
       unfolding replyOf readsOf
       lowest-self-is = answer-is w (Lowest a b) (gives a) n
-          (ap gives (answers.lowest-self w a (b - a) (s .least) (subst (λ j. Least w a j (s .least)) (let z : b ≡ a + (b - a) = omega arith in z) least) (omega zarith)))
+          (ap gives (answers.lowest-self w a (b - a) (s .least) fell (omega zarith)))
           (rw apart (settles (λ x. forward h w a (x .least) .1) (λ x. leZ (pos 0) (x .least)) low))
 
     module _ (low : leZ (pos 0) (s .least) ≡ false) where
-      fell : Least w a (a + (b - a)) (s .least)
-      fell = subst (λ j. Least w a j (s .least)) (let z : b ≡ a + (b - a) = omega arith in z) least
-
       lowest-at : (o : Option ℕ) → forward h w a (s .least) .0 ≡ o → found o ≡ gives (lowest w a (b - a))
-      lowest-at none e = absurd (answers.lowest-some w a (b - a) (s .least) fell (omega zarith) (omega arith) (forward-none h w over a (s .least) (omega arith) e))
-      lowest-at (some q) e = ap gives (sym (answers.lowest-by w a (b - a) (s .least) fell (omega zarith) q (forward-some h w over a (s .least) (omega arith) q e)))
+      lowest-at none e = absurd (answers.lowest-some w a (b - a) (s .least) fell (omega zarith) (omega arith)
+          (forward-none h w (over w) a (s .least) (omega arith) e))
+      lowest-at (some q) e = ap gives (sym (answers.lowest-by w a (b - a) (s .least) fell (omega zarith) q
+          (forward-some h w (over w) a (s .least) (omega arith) q e)))
 
       pub lowest-is : (x : Reach) → forward h w a (s .least) ≡ x → answer (found (x .0)) (n + x .1) ≡ answerTo w (Lowest a b)
       unfolding replyOf readsOf
@@ -160,13 +158,13 @@ module _ (w : List Bool) (balanced : isBalanced w ≡ true) where
     -- the earlier node and the later, in either order
     module _ (oa : getD w a false ≡ true) (ob : getD w b false ≡ true) where
       oa′ : getD (encode f) a false ≡ true
-      oa′ = of (λ u. getD u a false ≡ true) oa
+      oa′ = node-on w balanced a oa
 
       ob′ : getD (encode f) b false ≡ true
-      ob′ = of (λ u. getD u b false ≡ true) ob
+      ob′ = node-on w balanced b ob
 
       least′ : Least (encode f) a b (s .least)
-      least′ = of (λ u. Least u a b (s .least)) least
+      least′ = on-forest w balanced (λ u. Least u a b (s .least)) least
 
       in-order : readsOf h w (Nearest a b) ≡ nearestReads h w a b
       unfolding readsOf
@@ -190,9 +188,9 @@ module _ (w : List Bool) (balanced : isBalanced w ≡ true) where
       module _ (above : leZ (pos 1) (s .least) ≡ false) where
         nearest-at : (o : Option ℕ) → backward h w a (s .least -ℤ pos 1) .0 ≡ o → nearest f a b ≡ o
         nearest-at none e = answers.nearest-none f a b oa′ ob′ (s .least) l least′ (omega zarith)
-            (of (λ u. NoBackward u a (s .least -ℤ pos 1)) (backward-none h w over a (s .least -ℤ pos 1) (omega arith) e))
+            (on-forest w balanced (λ u. NoBackward u a (s .least -ℤ pos 1)) (backward-none h w (over w) a (s .least -ℤ pos 1) (omega arith) e))
         nearest-at (some p) e = answers.nearest-by f a b oa′ ob′ (s .least) l least′ (omega zarith) p
-            (of (λ u. Backward u a (s .least -ℤ pos 1) p) (backward-some h w over a (s .least -ℤ pos 1) (omega arith) p e))
+            (on-forest w balanced (λ u. Backward u a (s .least -ℤ pos 1) p) (backward-some h w (over w) a (s .least -ℤ pos 1) (omega arith) p e))
 
         pub nearest-is : (x : Reach) → backward h w a (s .least -ℤ pos 1) ≡ x → answer (found (x .0)) (n + x .1) ≡ answerTo w (Nearest a b)
         unfolding replyOf readsOf
@@ -212,7 +210,7 @@ module _ (w : List Bool) (balanced : isBalanced w ≡ true) where
 
   pub nearest-itself : (a : ℕ) → getD w a false ≡ true → answer (gives a) 0 ≡ answerTo w (Nearest a a)
   unfolding replyOf readsOf
-  nearest-itself a o = answer-is w (Nearest a a) (gives a) 0 (ap found (nearest-self f a (of (λ u. getD u a false ≡ true) o))) (rw (eq-eqb a a refl))
+  nearest-itself a o = answer-is w (Nearest a a) (gives a) 0 (ap found (nearest-self f a (node-on w balanced a o))) (rw (eq-eqb a a refl))
 
   pub lowest-itself : (a : ℕ) → answer (gives a) 0 ≡ answerTo w (Lowest a a)
   unfolding replyOf readsOf lowest

@@ -2,14 +2,12 @@
 use mathlib.Core.Path.{_≡_, refl}
 use mathlib.Core.Bool.{Bool, true, false, cond, not}
 use mathlib.Core.List.{List, [], _∷_}
-use Prim.Native.Nat.{ℕ, zero, suc, _≤_, _<_}
-use native.Mathlib.Omega.{arith}
+use Prim.Native.Nat.{ℕ, suc}
 use borrow.Author.Tests.{ltb-true, ltb-false}
 use lib.Dec.{ltb, eqb}
 use lib.ListN.{length, getD}
-use Rattle.judge.specs.First.{firstOf}
 use Rattle.question.specs.declared.Question.{Question}
-use Rattle.question.specs.declared.Question.the-variants.{Depth, Number, WithNumber, Closing, Opening, Parent, Ancestor, Branch, Children, FirstChild, NextSibling, Nearest, Lowest, Holds, Refused}
+use Rattle.question.specs.declared.Question.the-variants.{Depth, Number, Closing, Opening, Parent, Ancestor, Branch, Children, FirstChild, NextSibling, Nearest, Lowest, Holds}
 use Rattle.question.specs.Places.{IsNode, IsClosing, Sound}
 use Rattle.question.specs.Decode.{Checks, node, closing, boundaries, unless, decodeOf}
 
@@ -26,7 +24,8 @@ module _ (w : List Bool) where
   by-node : (a : ℕ) (rest : Checks) (q : Question) → (IsNode w a → Sound w (unless rest q)) → Sound w (unless (node w a rest) q)
   by-node a rest q k =
       by-check w (not (ltb a (length w))) 11 ((not (getD w a false), 13) ∷ rest) q λ e.
-      by-check w (not (getD w a false)) 12 rest q λ d. k (record { below = ltb-true a (length w) (not-not (ltb a (length w)) e); opens = not-not (getD w a false) d })
+      by-check w (not (getD w a false)) 12 rest q λ d.
+      k (record { below = ltb-true a (length w) (not-not (ltb a (length w)) e); opens = not-not (getD w a false) d })
 
   by-closing : (a : ℕ) (q : Question) → (IsClosing w a → Sound w q) → Sound w (unless (closing w a) q)
   by-closing a q k =

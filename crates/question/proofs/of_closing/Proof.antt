@@ -1,3 +1,4 @@
+-- `of_closing` meets its contract.
 use mathlib.Core.Path.{_∙_, ap}
 use Rattle.question.specs.declared.Question.the-variants.{Opening}
 use Rattle.question.specs.Decode.{refusing}

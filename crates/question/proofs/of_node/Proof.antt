@@ -1,3 +1,4 @@
+-- `of_node` meets its contract.
 use mathlib.Core.Path.{_∙_, ap}
 use Rattle.question.specs.Decode.{refusing}
 use borrow.Author.Needs.{needs}

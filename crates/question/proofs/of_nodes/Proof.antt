@@ -1,3 +1,4 @@
+-- `of_nodes` meets its contract.
 use mathlib.Core.Path.{_∙_}
 use mathlib.Core.List.{[]}
 use Rattle.word.specs.Bits.{word}
@@ -11,13 +12,15 @@ node-requires : tie.Need-node-requires
 node-requires c κs = search needs
 
 returns : tie.Need-returns
-returns c = let a = c .before .before .before .args in a-fails (word (a .bytes .now) (a .m)) (a .a) (node (word (a .bytes .now) (a .m)) (a .b) []) (a .q) _ (c .before .node .ensures) (c .if1 .taken)
+returns c = let a = c .before .before .before .args in let w = word (a .bytes .now) (a .m) in
+    a-fails w (a .a) (node w (a .b) []) (a .q) _ (c .before .node .ensures) (c .if1 .taken)
 
 of-node-requires : tie.Need-of-node-requires
 of-node-requires c κs = search needs
 
 returns-2 : tie.Need-returns-2
-returns-2 c = let a = c .before .before .before .before .args in c .of-node .ensures ∙ a-passes (word (a .bytes .now) (a .m)) (a .a) (node (word (a .bytes .now) (a .m)) (a .b) []) (a .q) _ (c .before .before .node .ensures) (c .before .if1 .left)
+returns-2 c = let a = c .before .before .before .before .args in let w = word (a .bytes .now) (a .m) in
+    c .of-node .ensures ∙ a-passes w (a .a) (node w (a .b) []) (a .q) _ (c .before .before .node .ensures) (c .before .if1 .left)
 
 pub of-nodes-spec : {M : Type 1} → statement M
 of-nodes-spec = tie.close (tie.spec node-requires returns of-node-requires returns-2)

@@ -1,15 +1,12 @@
+-- `refusing` meets its contract.
 use borrow.Author.Needs.{needs}
 use Rattle.question.proofs.Checks.{refusing-not}
 use Rattle.question.proofs.refusing.Statement.{statement}
 use Rattle.question.proofs.refusing.Tie as tie
-use Rattle.question.proofs.refusing.Reads as reads
-use Rattle.question.proofs.refusing.Lts as lts
 
--- src/lib.rt:67:9
 returns : tie.Need-returns
 returns c = search needs
 
--- src/lib.rt:63:1
 returns-2 : tie.Need-returns-2
 returns-2 c = refusing-not _ _ (c .if1 .left)
 

@@ -2,7 +2,7 @@
 use mathlib.Core.Path.{_∙_}
 use lib.IntN.{pos}
 use mir.Facts.{toZ-ofZ}
-use Rattle.walk.proofs.Signed64.{widen, small64, less-fits, fits-abs, zwide}
+use Rattle.walk.proofs.Signed64.{widen, zwide}
 use Rattle.word.proofs.Signed.{i32, -law}
 use Rattle.answer.proofs.signed.less_one.Statement.{statement}
 use Rattle.answer.proofs.signed.less_one.Tie as tie
