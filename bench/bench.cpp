@@ -15,7 +15,7 @@ struct Effort {
     std::vector<uint32_t> sizes, growth;
 };
 
-const Effort WHOLE{200000, 1000000, 2e7, {65536, 2097152}, {4096, 16384, 65536, 262144, 1048576, 2097152}};
+const Effort WHOLE{40000, 1000000, 2e7, {65536, 2097152}, {4096, 16384, 65536, 262144, 1048576, 2097152}};
 const Effort QUICK{2000, 20000, 1e6, {4096, 65536}, {4096, 16384, 65536}};
 
 // What is summed here can't be left out by the compiler.
