@@ -16,12 +16,7 @@ use Rattle.summary.specs.Bound.{Bounded}
 use Rattle.summary.proofs.Machine.{rb, small}
 use Rattle.summary.proofs.Bounds.{summary-bounded}
 use Rattle.summary.proofs.Join.{same}
-use Rattle.table.specs.Rows.{rowOf, part, numberAt}
-
--- the rule's own list: f at each place from i on, n of them
-abbrev pub listed : (ℕ → ℤ) → ℕ → ℕ → List ℤ
-listed f i zero = []
-listed f i (suc n) = f i ∷ listed f (suc i) n
+use Rattle.table.specs.Rows.{rowOf, part, numberAt, listed, tableOf}
 
 listed-at : (f : ℕ → ℤ) (i n k : ℕ) → k < n → getD (listed f i n) k (pos 0) ≡ f (i + k)
 listed-at f i zero k h = absurd (omega arith)
@@ -38,8 +33,12 @@ fits (suc zero) s h = small (s .least) (omega (arith, h .least))
 fits (suc (suc zero)) s h = small (s .greatest) (omega (arith, h .greatest))
 fits (suc (suc (suc j))) s h = small (s .count) (omega (arith, h .count))
 
-pub number-is : (k : ℕ) → k < 1024 → rb (getD (listed numberAt 0 1024) k (pos 0)) ≡ numberAt k
-number-is k h = ap rb (listed-at numberAt 0 1024 k h ∙ ap numberAt (let e : 0 + k ≡ k = omega arith in e)) ∙ toZ-ofZ (fits (k % 4) (rowOf (k / 4)) (row-bounded (k / 4)))
+-- a number of the table, as it was read
+pub number-is : (l : List ℤ) → l ≡ tableOf → (k : ℕ) → k < 1024 → rb (getD l k (pos 0)) ≡ numberAt k
+unfolding tableOf
+number-is l is k h =
+    ap (λ (t : List ℤ). rb (getD t k (pos 0))) is ∙ ap rb (listed-at numberAt 0 1024 k h ∙ ap numberAt (let e : 0 + k ≡ k = omega arith in e))
+    ∙ toZ-ofZ (fits (k % 4) (rowOf (k / 4)) (row-bounded (k / 4)))
 
 -- four numbers from place 4b are row b
 place : (b j k : ℕ) → k % 4 ≡ j → k / 4 ≡ b → numberAt k ≡ part j (rowOf b)

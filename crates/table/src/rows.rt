@@ -1,8 +1,7 @@
 // The byte table: for each byte value the total, least, greatest and count of its eight bits, lowest weight first.
-// `number` is the one way to it.
+// It is lent on whole, since each mention of a constant array copies it.
 ghost use mathlib.Core.Path.{_≡_};
-ghost use Prim.Native.Nat.{_<_};
-ghost use Rattle.table.specs.Rows.{numberAt};
+ghost use Rattle.table.specs.Rows.{tableOf};
 
 const ROWS: [i32; 1024] = [
     -8,
@@ -1031,9 +1030,9 @@ const ROWS: [i32; 1024] = [
     1, // 0xFF
 ];
 
-pub(crate) fn number(k: usize) -> i32
-    requires { ⌜ k < 1024 ⌝ }
-    ensures { λ r. ⌜ r ≡ numberAt k ⌝ }
+// The whole table, to be lent on: an array of 4 KiB is copied once a stretch, not once a number.
+pub(crate) fn table() -> [i32; 1024]
+    ensures { λ r. ⌜ r ≡ tableOf ⌝ }
 {
-    ROWS[k]
+    ROWS
 }

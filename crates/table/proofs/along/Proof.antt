@@ -1,4 +1,4 @@
--- The loop of `stretch`: up to bit i, s is the summary. Assumes nothing.
+-- The loop of `along`: up to bit i, s is the summary. Assumes nothing.
 use mathlib.Core.Path.{_≡_, sym, ap, _∙_}
 use mathlib.Core.List.{[], _∷_}
 use Prim.Native.Nat.{_-_}
@@ -7,18 +7,18 @@ use Rattle.word.specs.Bits.{bits}
 use Rattle.summary.specs.Stretch.{summaryOf}
 use Rattle.summary.specs.Join.{emptyOf}
 use Rattle.table.proofs.Part.{Upto, starts, fits, goes-on, row-bits, whole-fits}
-use Rattle.table.proofs.stretch.Statement.{statement}
-use Rattle.table.proofs.stretch.Tie as tie
+use Rattle.table.proofs.along.Statement.{statement}
+use Rattle.table.proofs.along.Tie as tie
 
 abbrev Inv-loop : tie.InvT-loop
-Inv-loop bytes from to s₀ i₀ s i = Upto bytes from to s i
+Inv-loop rows bytes from to s₀ i₀ s i = Upto bytes from to s i
 
 abbrev μ-loop : tie.MeasureT-loop
-μ-loop bytes from to s₀ i₀ s i = to - i
+μ-loop rows bytes from to s₀ i₀ s i = to - i
 
 loop-holds : tie.Need-loop-holds Inv-loop μ-loop
 unfolding emptyOf
-loop-holds c = let a = c .before .args in starts (a .bytes .now) (a .from) (a .to) (c .before .pre .0)
+loop-holds c = let a = c .before .args in starts (a .bytes .now) (a .from) (a .to) (c .before .pre .1)
 
 whole-requires : tie.Need-whole-requires Inv-loop μ-loop
 whole-requires c κs = omega arith
@@ -27,7 +27,7 @@ shared-slice-read-of-byte : tie.Need-shared-slice-read-of-byte Inv-loop μ-loop
 shared-slice-read-of-byte c = omega arith
 
 of-byte-requires : tie.Need-of-byte-requires Inv-loop μ-loop
-of-byte-requires c κs = tt
+of-byte-requires c κs = c .before .before .before .before .before .before .pre .0
 
 join-requires : tie.Need-join-requires Inv-loop μ-loop
 join-requires c κs =
@@ -75,8 +75,8 @@ returns c =
     let a = c .before .before .before .args in
     l .inv .sums ∙ ap (λ n. summaryOf (bits (a .bytes .now) (a .from) (n - a .from))) (let e : l .i ≡ a .to = omega arith in e)
 
-pub stretch-spec : {M : Type 1} → statement M
-stretch-spec =
+pub along-spec : {M : Type 1} → statement M
+along-spec =
     tie.close
     (tie.spec
     Inv-loop
