@@ -1,4 +1,6 @@
 // One question answered, over the walks that document 01's table names for its kind.
+#![tactic(auto)]
+
 ghost use Rattle.std.specs.Prelude.{◌≡◌};
 ghost use Rattle.word.specs.Bits.{word};
 ghost use Rattle.question.specs.Places.{Sound};
@@ -15,7 +17,7 @@ mod pairs;
 mod signed;
 
 // Where a node's branch ends: the boundary after its closing, and the entries read to find it.
-#[derive(Drop)]
+#[derive(Clone, Copy)]
 pub struct End {
     pub past: usize,
     pub reads: u32,

@@ -1,5 +1,7 @@
 // The backward walk: "Backward from p by t: the last q < p with D(q) = D(p)+t."
 // A scan down, a climb, a way down by right children first, and a second scan down. Entries are read by `walk::read` alone.
+#![tactic(auto)]
+
 ghost use Rattle.std.specs.Prelude.{◌≡◌, cond, ◌-◌, ◌*◌, ◌≤◌, length, pos, nat_abs};
 ghost use Rattle.std.proofs.Math.Option.{none, some};
 ghost use Rattle.word.specs.Signed.{eq_z};

@@ -1,5 +1,7 @@
 // A batch: the refusals in their order, then each question's own answer over the lent slice. Word and index are checked once;
 // a question then costs its walks and nothing else.
+#![tactic(auto)]
+
 ghost use Rattle.std.specs.Prelude.{◌≡◌, ◌+◌, ◌≤◌, length};
 ghost use Rattle.std.proofs.lemmas.List.Edits.{sets};
 ghost use Rattle.batch.specs.Batch.{refusal, three, answers_of, Batched};

@@ -1,4 +1,6 @@
 // Building: the refusals in their order, then the index filled into the lent slice, from the last entry to entry 0.
+#![tactic(auto)]
+
 ghost use Rattle.std.specs.Prelude.{◌≡◌};
 ghost use Rattle.std.proofs.lemmas.List.Edits.{sets};
 ghost use Rattle.word.specs.Bits.{word};

@@ -1,4 +1,6 @@
 // One entry of the index, worked out: from the word where it is a leaf, from the two entries below it where it isn't.
+#![tactic(auto)]
+
 ghost use Rattle.std.specs.Prelude.{◌≡◌, ◌+◌, ◌≤◌, length};
 ghost use Rattle.word.specs.Bits.{word, bytes_of};
 ghost use Rattle.summary.specs.Stretch.{summary_of};

@@ -1,5 +1,7 @@
 // Document 01's examples, through judging, building and batches as they are.
 // A call's line has its code and the number beside it; a question's line has kind, a, b and then code, result, entries read.
+#![tactic(auto)]
+
 ghost use Rattle.std.specs.Prelude.{◌+◌, ◌<◌, length};
 
 use judge::Outcome;

@@ -1,5 +1,7 @@
 // Bytes copied into a part of a lent slice.
 // Beside it, proofs/Fill.antt has the laws of writing one list over a part of another, for every crate that fills a lent slice.
+#![tactic(auto)]
+
 ghost use Rattle.std.specs.Prelude.{◌≡◌, ◌+◌, ◌≤◌, length};
 ghost use Rattle.std.proofs.lemmas.List.Edits.{sets};
 

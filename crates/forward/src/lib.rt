@@ -1,5 +1,7 @@
 // The forward walk: from boundary p by t, the first q > p with D(q) = D(p)+t, and how many entries were read.
 // It scans the block where it starts, climbs, goes down, and scans the leaf that it reaches: no bit of any other block.
+#![tactic(auto)]
+
 ghost use Rattle.std.specs.Prelude.{◌≡◌, ◌-◌, ◌*◌, ◌<◌, ◌≤◌, length, nat_abs};
 ghost use Rattle.word.specs.Bits.{word};
 ghost use Rattle.index.specs.Shape.{height};

@@ -1,5 +1,7 @@
 // Reading a house file: the word's size, its bytes and the questions, or the number of the first fault.
 // A field is read where it stands; only what is gathered, word bytes and questions, is copied, once.
+#![tactic(auto)]
+
 ghost use Rattle.std.specs.Prelude.{◌≡◌, ◌+◌, ◌*◌, ◌<◌, ◌≤◌, length};
 ghost use Rattle.std.proofs.lemmas.List.Edits.{sets};
 ghost use Rattle.house.specs.Fields.{two_at, four_at, value_at, cut_short, unknown_tag, out_of_place, wrong_length, size_field, word_field, question_field, field_at};
@@ -7,7 +9,7 @@ ghost use Rattle.house.specs.File.{three_of, Read, refused, ended, start, sized,
 
 // What the fields before the place `at` have told. The stage is 0 before the first field, 1 where the
 // word may go on, and 2 once a question has come.
-#[derive(Drop)]
+#[derive(Clone, Copy)]
 pub struct State {
     pub at: usize,
     pub stage: u32,
@@ -17,7 +19,7 @@ pub struct State {
 }
 
 // A field with no fault, or the number of its fault. A word's stretch carries its length: the bytes stay in the file.
-#[derive(Drop)]
+#[derive(Clone, Copy)]
 pub enum Field {
     Bad(u32),
     Size(u32),
@@ -26,7 +28,7 @@ pub enum Field {
 }
 
 // What reading gives back: code 0 with m, how many word bytes and how many questions; or a refusal with zeros.
-#[derive(Drop)]
+#[derive(Clone, Copy)]
 pub struct House {
     pub code: u32,
     pub m: u32,

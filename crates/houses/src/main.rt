@@ -1,4 +1,6 @@
 // House files, and what `lineage` prints for each: every refusal, the smallest and the largest.
+#![tactic(auto)]
+
 ghost use Rattle.std.specs.Prelude.{◌≡◌, ◌+◌, ◌≤◌, ◌<◌, length};
 
 use libc::STDOUT_FILENO;

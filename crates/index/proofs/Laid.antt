@@ -21,7 +21,7 @@ abbrev rb : ℤ → ℤ
 rb z = to_z w32 (of_z w32 z)
 
 rb_is : (z : ℤ) → mag z < 2147483648 → rb z ≡ z
-rb_is z h = to_z-of_z (record { sfits = h })
+rb_is z h = to_z-of_z {w = w32} (record { sfits = h })
 
 pub laid : (l : List ℤ) (i : ℕ) (s : Summary) → mag s.total < 2147483648 → mag s.least < 2147483648 → mag s.greatest < 2147483648 → mag s.count < 2147483648
     → set (set (set (set l i (rb s.total)) (i + 1) (rb s.least)) (i + 2) (rb s.greatest)) (i + 3) (rb s.count) ≡ sets l i (four s)

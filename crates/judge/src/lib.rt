@@ -1,4 +1,6 @@
 // The judge: whether the lent bytes hold a balanced word of m bits.
+#![tactic(auto)]
+
 ghost use Rattle.std.specs.Prelude.{◌≡◌, ◌≤◌, length};
 ghost use Rattle.word.specs.Bits.{word, bytes_of};
 ghost use Rattle.word.specs.Parse.{is_balanced};
@@ -6,7 +8,7 @@ ghost use Rattle.judge.specs.Judge.{refusal, judged};
 
 // What an entry point gives back: a refusal's number or 0, and the number that the call names beside it.
 #[repr(C)]
-#[derive(Drop)]
+#[derive(Clone, Copy)]
 pub struct Outcome {
     pub code: u32,
     pub value: usize,

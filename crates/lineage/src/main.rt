@@ -1,4 +1,6 @@
 // `lineage` reads a house file on standard input and prints its answers, or its refusal.
+#![tactic(auto)]
+
 use libc::{STDIN_FILENO, STDOUT_FILENO};
 
 fn main() {

@@ -1,5 +1,7 @@
 // The C face: judging, building and a batch under names that C and Rust link, each the proved call with its whole promise.
 // A slice is a pointer and how many elements it leads to; nothing is required of the numbers.
+#![tactic(auto)]
+
 ghost use Rattle.std.specs.Prelude.{◌≡◌};
 ghost use Rattle.judge.specs.Judge.{judged};
 ghost use Rattle.build.specs.Build.{Built};

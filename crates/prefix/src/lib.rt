@@ -1,5 +1,7 @@
 // The prefix walk: "Prefix at p < m: D(p)." A scan of the bits of p's block before p, then the climb.
 // Entries are read by `walk::read` alone, which counts them.
+#![tactic(auto)]
+
 ghost use Rattle.std.specs.Prelude.{◌≡◌, ◌-◌, ◌*◌, ◌<◌, ◌≤◌, length};
 ghost use Rattle.word.specs.Bits.{bits, word};
 ghost use Rattle.summary.specs.Stretch.{depth_of};
@@ -9,14 +11,14 @@ ghost use Rattle.walk.specs.Prefix.{prefix};
 ghost use Rattle.prefix.specs.Rise.{Stands, Risen, told};
 
 // D(p), and the entries read.
-#[derive(Drop)]
+#[derive(Clone, Copy)]
 pub struct Depth {
     pub depth: i64,
     pub reads: u32,
 }
 
 // The climb's state: the entry, the depth of p from its start, and the reads.
-#[derive(Drop)]
+#[derive(Clone, Copy)]
 pub struct Rise {
     pub entry: usize,
     pub depth: i64,

@@ -1,11 +1,13 @@
 // A question: three numbers decoded into one case per kind with its checked places, or into a refusal.
+#![tactic(auto)]
+
 ghost use Rattle.std.specs.Prelude.{◌≡◌, [], ◌*◌, ◌≤◌, length};
 ghost use Rattle.word.specs.Bits.{word};
 ghost use Rattle.judge.specs.First.{first_of};
 ghost use Rattle.question.specs.Decode.{node, closing, boundaries, refusing, unless, decode_of};
 
 // "Each question is three unsigned 32-bit numbers: kind, a, b."
-#[derive(Drop)]
+#[derive(Clone, Copy)]
 pub enum Question {
     Depth(usize),
     Number(usize),
@@ -25,7 +27,7 @@ pub enum Question {
 }
 
 // "Each answer is code, result, entries read."
-#[derive(Drop)]
+#[derive(Clone, Copy)]
 pub struct Answer {
     pub code: u32,
     pub result: u32,

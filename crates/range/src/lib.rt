@@ -1,5 +1,7 @@
 // The range walk: "Range of boundaries a+1 to b, a < b: the summary of bits a up to b." The ends are scanned, what lies between is joined
 // level by level. Entries are read by `walk::read` alone, which counts them.
+#![tactic(auto)]
+
 ghost use Rattle.std.specs.Prelude.{◌≡◌, ◌<◌, ◌≤◌};
 ghost use Rattle.word.specs.Bits.{word};
 ghost use Rattle.index.specs.Shape.{height};
@@ -11,14 +13,14 @@ ghost use Rattle.range.specs.Span.{Joins, joined, told};
 use summary::Summary;
 
 // The summary of the bits between two boundaries, and the entries read.
-#[derive(Drop)]
+#[derive(Clone, Copy)]
 pub struct Ranged {
     pub summary: Summary,
     pub reads: u32,
 }
 
 // The climb's state: the entries k and r, between which nothing is joined yet, what is joined on either side, and the reads.
-#[derive(Drop)]
+#[derive(Clone, Copy)]
 pub struct Span {
     pub k: usize,
     pub r: usize,

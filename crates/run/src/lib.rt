@@ -1,5 +1,7 @@
 // A house file answered: from the bytes that are read to the bytes that are printed.
 // Word, questions, index and answers live in arrays sized for the largest file: 65,536 bits, 1,024 questions, 256 leaves.
+#![tactic(auto)]
+
 ghost use Rattle.std.specs.Prelude.{◌≤◌, length};
 ghost use Rattle.text.specs.Text.{Put};
 ghost use Rattle.run.specs.Output.{answered, output, Ran};

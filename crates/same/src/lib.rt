@@ -1,4 +1,6 @@
 // Whether lent numbers are the index of a word: each entry in turn, from the last to entry 0.
+#![tactic(auto)]
+
 ghost use Rattle.std.specs.Prelude.{◌≡◌};
 ghost use Rattle.word.specs.Bits.{word};
 ghost use Rattle.index.specs.Shape.{height};

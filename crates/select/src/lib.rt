@@ -1,5 +1,7 @@
 // The select walk: "Select r < n: the opening with number r." The way down from entry 1, then the scan of the leaf reached.
 // Entries are read by `walk::read` alone, which counts them.
+#![tactic(auto)]
+
 ghost use Rattle.std.specs.Prelude.{◌≡◌, ◌-◌, ◌*◌, ◌/◌, ◌≤◌, min, length, pos, ◌+ℤ◌, ◌≤ℤ◌};
 ghost use Rattle.word.specs.Signed.{P};
 ghost use Rattle.word.specs.Bits.{bits, word};
@@ -13,7 +15,7 @@ ghost use Rattle.select.specs.Sink.{Over, sunk};
 use walk::Found;
 
 // The state of the way down: the entry, the first block that it stands over and how many, the number sought from there, and the reads.
-#[derive(Drop)]
+#[derive(Clone, Copy)]
 pub struct Sink {
     pub entry: usize,
     pub block: usize,

@@ -22,7 +22,7 @@ abbrev pub Ok : ℤ → Type 0
 Ok z = mag z < 2147483648
 
 pub ok_back : (z : ℤ) → Ok z → rb z ≡ z
-ok_back z h = to_z-of_z (record { sfits = h })
+ok_back z h = to_z-of_z {w = w32} (record { sfits = h })
 
 pub small : (z : ℤ) → nat_abs z ≤ 4194304 → SFits w32 z
 small z h = omega (zarith, abs_law z)

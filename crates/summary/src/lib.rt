@@ -1,4 +1,6 @@
 // The summary of a stretch of bits, four numbers by value, and how two neighbouring stretches join.
+#![tactic(auto)]
+
 ghost use Rattle.std.specs.Prelude.{◌≡◌, ◌+ℤ◌};
 ghost use Rattle.std.specs.Int.{w32};
 ghost use Rattle.std.proofs.Common.{SFits};
@@ -7,7 +9,7 @@ ghost use Rattle.summary.specs.Join.{at, joined, join_of, empty_of};
 ghost use Rattle.summary.specs.Bound.{Bounded};
 
 // Depths are counted from the stretch's start, over the boundaries after it.
-#[derive(Drop)]
+#[derive(Clone, Copy)]
 pub struct Summary {
     pub total: i32,
     pub least: i32,

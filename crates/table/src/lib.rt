@@ -1,4 +1,6 @@
 // The summary of a stretch of the lent bytes' bits: a whole byte at once through the table of rows.rt, what is left at either end bit by bit.
+#![tactic(auto)]
+
 ghost use Rattle.std.specs.Prelude.{◌≡◌, [], ◌∷◌, ◌-◌, ◌*◌, ◌≤◌, ◌<◌, length};
 ghost use Rattle.word.specs.Bits.{bits};
 ghost use Rattle.summary.specs.Stretch.{summary_of};

@@ -1,5 +1,7 @@
 // The printed text: numbers in decimal, a line for each answer, or a refusal.
 // Every function here that writes says by `Put` what it wrote and where that ends.
+#![tactic(auto)]
+
 ghost use Rattle.std.specs.Prelude.{◌≡◌, ◌∷◌, [], ◌+◌, ◌*◌, ◌<◌, ◌≤◌, ◌%◌, length};
 ghost use Rattle.text.specs.Text.{Put, digits, number, line, lines, refusal};
 

@@ -21,7 +21,7 @@ use Rattle.walk.specs.declared.Seen.{Seen}
 
 -- a field of a struct, read back
 pub back64 : (z : ℤ) → mag z < 9223372036854775808 → wb z ≡ z
-back64 z h = to_z-of_z (record { sfits = h })
+back64 z h = to_z-of_z {w = w64} (record { sfits = h })
 
 -- `==` compares bits
 pub eqb_of_z64 : {a b : ℤ} → SFits w64 a → SFits w64 b → eqb (of_z w64 a) (of_z w64 b) ≡ eq_z a b

@@ -1,5 +1,7 @@
 // What the five walks share: their state and its steps, the reading of an entry, and the test of one.
 // An entry is read, and the read counted, in one place: `read`.
+#![tactic(auto)]
+
 ghost use Rattle.std.specs.Prelude.{◌≡◌, false, cond, ◌+◌, ◌*◌, ◌/◌, ◌<◌, ◌≤◌, min, length, pos, nat_abs, ◌+ℤ◌, ◌-ℤ◌};
 ghost use Rattle.std.specs.Int.Signed.{le_z};
 ghost use Rattle.word.specs.Signed.{eq_z};
@@ -13,21 +15,21 @@ ghost use Rattle.walk.specs.Beside.{after_of, before_of};
 use summary::Summary;
 
 // The boundary found, and the reads; or the reads alone.
-#[derive(Drop)]
+#[derive(Clone, Copy)]
 pub enum Found {
     At(usize, u32),
     Nothing(u32),
 }
 
 // A scan of bits meets the boundary wanted, or leaves the amount still wanted.
-#[derive(Drop)]
+#[derive(Clone, Copy)]
 pub enum Scan {
     Met(usize),
     Left(i64),
 }
 
 // "the walk's state (entry, amount wanted, reads)"
-#[derive(Drop)]
+#[derive(Clone, Copy)]
 pub struct Walk {
     pub entry: usize,
     pub want: i64,
@@ -35,14 +37,14 @@ pub struct Walk {
 }
 
 // A climb ends at an entry to go down into, or at entry 1.
-#[derive(Drop)]
+#[derive(Clone, Copy)]
 pub enum Climb {
     Enter(Walk),
     Top(Walk),
 }
 
 // An entry that was read, and the reads with it.
-#[derive(Drop)]
+#[derive(Clone, Copy)]
 pub struct Seen {
     pub summary: Summary,
     pub reads: u32,

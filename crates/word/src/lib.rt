@@ -1,4 +1,6 @@
 // Reading one parenthesis of a row: the lowest thing the code does.
+#![tactic(auto)]
+
 ghost use Rattle.std.specs.Prelude.{◌≡◌, ◌*◌, ◌<◌, length};
 ghost use Rattle.word.specs.Bits.{bit};
 

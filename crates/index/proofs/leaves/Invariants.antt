@@ -1,0 +1,12 @@
+-- `leaves` meets its contract: the power tried is never past L. Assumes nothing.
+use Prim.Native.Nat.{◌-◌}
+use native.Mathlib.Omega.{arith}
+use borrow.Author.Rules.{rules}
+use Rattle.index.proofs.Height.{Tried, tried_one, tried_more, tried_some, tried_enough}
+use Rattle.index.proofs.leaves.Given as goal
+
+abbrev pub invariant-loop-l : goal.invariant-loop-l
+invariant-loop-l l = Tried l.m l.l
+
+abbrev pub decreases-loop-l : goal.decreases-loop-l
+decreases-loop-l l = l.blocks - l.l
