@@ -1,0 +1,17 @@
+-- `descend` meets its contract: what is left of the way down gives what the whole gives.
+use Prim.Native.Nat.{◌-◌}
+use Rattle.word.proofs.Signed.{zarith}
+use Rattle.index.specs.Lent.{entry_at}
+use Rattle.forward.specs.Steps.{descent_of}
+use Rattle.walk.proofs.Room.{Sinking, sink_start, sink_on}
+use Rattle.forward.proofs.Sinking.{sunk_leaf, step_down}
+use Rattle.forward.proofs.descend.Goals as goal
+
+pub loop-w-preserved : goal.loop-w-preserved
+loop-w-preserved c = let s = c.args in let e = c.read-left.ensures in let b = c.loop-w-test.true in
+    sink_on (descent_of (entry_at s.index.now) s.l) s.l s.start c.loop-w.w c.loop-w.invariant b c.down-w.result
+    (step_down (entry_at s.index.now) s.l c.loop-w.w b c.down-w.result (rw e at c.down-w.ensures)
+    (rw e at c.read-left.type_inv.1.1.0.1.1.0.1))
+
+pub returns : goal.returns
+returns c = sunk_leaf (entry_at c.args.index.now) c.args.l c.args.start c.loop-w.w c.loop-w.invariant c.loop-w-test.false
