@@ -113,6 +113,7 @@ fn of_boundaries(bytes: &[u8], m: usize, a: usize, b: usize) -> Question
 }
 
 // "A question checks 11 to 16 in order, but argument a wholly (12 to 14) before b."
+#[tactic(auto, unfolding(crate::specs::Decode::decode_of))]
 pub fn decode(bytes: &[u8], m: usize, kind: u32, a: u32, b: u32) -> Question
     requires { m ≤ 8 * length bytes.now }
     ensures { result ≡ decode_of (word bytes.now m) kind a b }

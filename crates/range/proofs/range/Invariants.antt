@@ -1,0 +1,11 @@
+-- `range` meets its contract.
+use native.Mathlib.Omega.{arith}
+use Rattle.index.proofs.Height.{leaves_few}
+use Rattle.range.proofs.Climb.{Kept, near, kept_start, bounded_left, bounded_right, kept_end, joins, kept_on, lower}
+use Rattle.range.proofs.range.Given as goal
+
+abbrev pub invariant-loop-v : goal.invariant-loop-v
+invariant-loop-v l = Kept l.bytes l.m l.a l.b l.v
+
+abbrev pub decreases-loop-v : goal.decreases-loop-v
+decreases-loop-v l = l.v.r

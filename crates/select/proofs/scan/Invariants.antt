@@ -1,0 +1,15 @@
+-- `scan` meets its contract.
+use mathlib.Core.Path.{◌≡◌, refl, sym, ◌∙◌}
+use mathlib.Core.Logic.{⊎_elim}
+use Prim.Native.Nat.{◌-◌}
+use native.Mathlib.Omega.{arith}
+use Rattle.word.specs.Bits.{bits}
+use Rattle.walk.specs.Scan.{nth}
+use Rattle.select.proofs.Leaf.{nth_end, nth_closes, nth_found, nth_opens}
+use Rattle.select.proofs.scan.Given as goal
+
+abbrev pub invariant-loop-i : goal.invariant-loop-i
+invariant-loop-i l = nth l.i (bits l.bytes l.i (l.to - l.i)) l.rest ≡ nth l.from (bits l.bytes l.from (l.to - l.from)) l.number
+
+abbrev pub decreases-loop-i : goal.decreases-loop-i
+decreases-loop-i l = l.to - l.i

@@ -1,0 +1,10 @@
+-- `select` meets its contract.
+use Rattle.word.proofs.Signed.{zarith}
+use Rattle.select.proofs.Descent.{Kept, kept_start, block_near, kept_end, over, kept_on, narrower}
+use Rattle.select.proofs.select.Given as goal
+
+abbrev pub invariant-loop-v : goal.invariant-loop-v
+invariant-loop-v l = Kept l.bytes l.m l.r l.v
+
+abbrev pub decreases-loop-v : goal.decreases-loop-v
+decreases-loop-v l = l.v.width
