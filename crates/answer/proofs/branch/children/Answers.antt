@@ -1,0 +1,23 @@
+-- `children` meets its contract.
+use borrow.Author.Rules.{rules}
+use mathlib.Core.Path.{sym, ◌∙◌}
+use native.Mathlib.Omega.{arith}
+use Rattle.answer.proofs.Walked.{row}
+use Rattle.answer.proofs.Told.{next_in, childless_told}
+use Rattle.answer.proofs.branch.children.Goals as goal
+
+pub overflow_add-a : goal.overflow_add-a
+overflow_add-a c =
+    let r = row c.requires.0 in
+    record { fits = omega (arith, next_in r c.requires.1) }
+
+pub opens-requires : goal.opens-requires
+opens-requires c =
+    let r = row c.requires.0 in
+    omega (arith, next_in r c.requires.1)
+
+pub returns : goal.returns
+returns c =
+    let r = row c.requires.0 in
+    c.answered.ensures
+    ∙ childless_told r c.requires.1 c.end_of-e.ensures c.opens.ensures c.if-opens.false

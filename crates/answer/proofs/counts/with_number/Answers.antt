@@ -1,0 +1,17 @@
+-- `with_number` meets its contract.
+use borrow.Author.Rules.{rules}
+use mathlib.Core.Path.{◌∙◌}
+use native.Mathlib.Omega.{arith}
+use Rattle.answer.proofs.Walked.{row, select_near}
+use Rattle.answer.proofs.Told.{past_told, number_at}
+use Rattle.answer.proofs.counts.with_number.Goals as goal
+
+pub returns-then-m-r : goal.returns-then-m-r
+returns-then-m-r c = c.missed.ensures ∙ past_told (row c.requires) c.if-m-r.true
+
+pub reached-requires : goal.reached-requires
+reached-requires c = (select_near (row c.requires) _ c.select.ensures, omega arith)
+
+pub returns : goal.returns
+returns c =
+    c.reached.ensures ∙ number_at (row c.requires) c.if-m-r.false c.select.ensures

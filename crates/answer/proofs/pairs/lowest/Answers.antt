@@ -1,0 +1,9 @@
+-- `lowest` meets its contract.
+use mathlib.Core.Path.{◌∙◌}
+use native.Mathlib.Omega.{arith}
+use Rattle.answer.proofs.Walked.{row}
+use Rattle.answer.proofs.Told.{lowest_same}
+use Rattle.answer.proofs.pairs.lowest.Goals as goal
+
+pub returns-then-a-b : goal.returns-then-a-b
+returns-then-a-b c = c.answered.ensures ∙ lowest_same (row c.requires.0) c.if-a-b.true
