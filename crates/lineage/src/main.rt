@@ -1,15 +1,33 @@
 // `lineage` reads a house file on standard input and prints its answers, or its refusal.
 #![tactic(auto)]
 
-use libc::{STDIN_FILENO, STDOUT_FILENO};
+ghost use Rattle.std.specs.Prelude.{◌≤◌, length, IfOk};
 
-fn main() {
+use std::io;
+use std::io::Read;
+
+// Reads until `buf` is full or the input ends: how many bytes it put at the front of `buf`.
+fn read_full(input: &mut impl Read, buf: &mut [u8]) -> io::Result<usize>
+    ensures { IfOk result (λ n. n ≤ length buf.new) }
+{
+    let mut done = 0;
+    while done < buf.len() {
+        let n = input.read(&mut buf[done..])?;
+        if n == 0 {
+            return Ok(done);
+        }
+        done += n;
+    }
+    Ok(done)
+}
+
+fn main(rt: HostRuntime) -> io::Result<()> {
     // One byte past the limit, so that a longer input shows.
     let mut input = [0u8; 49153];
     // All that the longest text takes, so that `run` always writes.
     let mut output = [0u8; 33792];
-    let n = io::read_full(STDIN_FILENO, &mut input);
+    let n = read_full(&mut rt.reader(), &mut input)?;
     let ran = run::run(&input[..n], &mut output);
     let k = ran.value;
-    io::write_all(STDOUT_FILENO, &output[..k]);
+    rt.stdout().write_all(&output[..k])
 }

@@ -1,0 +1,12 @@
+-- `show_last` reads no more than `run` gave it. Assumes nothing.
+use mathlib.Core.Path.{sym}
+use lib.Seq.{length-take-le}
+use Rattle.run.proofs.Settled.{ran_inside}
+use borrow.Author.Rules.{rules}
+use Rattle.houses.proofs.show_last.Goals as goal
+
+pub slice_bounds-output-end : goal.slice_bounds-output-end
+slice_bounds-output-end g c = ran_inside _ _ _ _ c.run-ran.ensures
+
+pub slice_bounds-last_line-end : goal.slice_bounds-last_line-end
+slice_bounds-last_line-end g c = sym (length-take-le _ _ (ran_inside _ _ _ _ c.run-ran.ensures))

@@ -1,0 +1,11 @@
+-- `main` writes no more than `run` gave it. Assumes nothing.
+use mathlib.Core.Path.{sym}
+use lib.Seq.{length-take-le}
+use Rattle.run.proofs.Settled.{ran_inside}
+use Rattle.lineage.proofs.main.Goals as goal
+
+pub slice_bounds-output-end : goal.slice_bounds-output-end
+slice_bounds-output-end c = ran_inside _ _ _ _ c.run-ran.ensures
+
+pub slice_bounds-write_all-end : goal.slice_bounds-write_all-end
+slice_bounds-write_all-end c = sym (length-take-le _ _ (ran_inside _ _ _ _ c.run-ran.ensures))
