@@ -18,10 +18,10 @@ returns-then-zero c = turn_met c.args.bytes.now c.args.from c.loop-i.i (to_z w64
 
 pub loop-i-preserved : goal.loop-i-preserved
 loop-i-preserved c = let u = by_step ◌+ℤ◌ c.plus-t.result (to_z w64 c.loop-i.t-bits) c.step.result (bit c.args.bytes.now (c.loop-i.i - 1)) c.plus-t.type_inv c.step.type_inv c.plus-t.ensures (c.step.ensures ∙ ap step c.opens-b.ensures) in (
-      omega zarith,
-      turn_near c.args.bytes.now c.args.from c.loop-i.i (to_z w64 c.loop-i.t-bits) (omega zarith) _ u _ _ c.loop-i.invariant.1 (omega zarith),
-      turn_next c.args.bytes.now c.args.from c.loop-i.i (to_z w64 c.loop-i.t-bits) (omega zarith) _ u (sym c.zero.ensures ∙ c.if-zero.false) ∙ c.loop-i.invariant.2,
-    )
+  omega zarith,
+  turn_near c.args.bytes.now c.args.from c.loop-i.i (to_z w64 c.loop-i.t-bits) (omega zarith) _ u _ _ c.loop-i.invariant.1 (omega zarith),
+  turn_next c.args.bytes.now c.args.from c.loop-i.i (to_z w64 c.loop-i.t-bits) (omega zarith) _ u (sym c.zero.ensures ∙ c.if-zero.false) ∙ c.loop-i.invariant.2,
+)
 
 pub returns : goal.returns
 returns c = sym (scan_end c.args.bytes.now c.args.from (c.loop-i.i - c.args.from) (to_z w64 c.loop-i.t-bits) (omega zarith)) ∙ rw (to_z-of_z c.ranges.want) at c.loop-i.invariant.2

@@ -20,10 +20,10 @@ returns-then-zero c = let u = by_step ◌-ℤ◌ c.minus-t.result (to_z w64 c.lo
 
 pub loop-i-preserved : goal.loop-i-preserved
 loop-i-preserved c = let u = by_step ◌-ℤ◌ c.minus-t.result (to_z w64 c.loop-i.t-bits) c.step.result (bit c.args.bytes.now c.loop-i.i) c.minus-t.type_inv c.step.type_inv c.minus-t.ensures (c.step.ensures ∙ ap step c.opens-b.ensures) in (
-      omega zarith,
-      turn_near c.args.bytes.now c.args.to c.loop-i.i (to_z w64 c.loop-i.t-bits) _ (omega zarith) u _ _ c.loop-i.invariant.1 (omega zarith),
-      turn_next c.args.bytes.now c.args.to c.loop-i.i (to_z w64 c.loop-i.t-bits) _ (omega zarith) u (sym c.zero.ensures ∙ c.if-zero.false) ∙ c.loop-i.invariant.2,
-    )
+  omega zarith,
+  turn_near c.args.bytes.now c.args.to c.loop-i.i (to_z w64 c.loop-i.t-bits) _ (omega zarith) u _ _ c.loop-i.invariant.1 (omega zarith),
+  turn_next c.args.bytes.now c.args.to c.loop-i.i (to_z w64 c.loop-i.t-bits) _ (omega zarith) u (sym c.zero.ensures ∙ c.if-zero.false) ∙ c.loop-i.invariant.2,
+)
 
 pub returns : goal.returns
 returns c = sym (scan_end c.args.bytes.now c.loop-i.i (c.args.to - c.loop-i.i) (to_z w64 c.loop-i.t-bits) (omega zarith)) ∙ rw (to_z-of_z c.ranges.want) at c.loop-i.invariant.2

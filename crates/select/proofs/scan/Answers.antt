@@ -15,11 +15,11 @@ returns-then-rest-eq0 c = let s = c.args in
 
 pub loop-i-preserved : goal.loop-i-preserved
 loop-i-preserved c = let s = c.args in elim c.if-opens.branch [
-      then-opens+else-rest-eq0 w ↦
-        rw w.rest-is (sym (nth_opens s.bytes.now c.loop-i.i s.to c.loop-i.rest (omega arith) (sym c.opens.ensures ∙ w.if-opens.true) (omega arith)) ∙ c.loop-i.invariant)
-    | else-opens w ↦
-        rw w.rest-is (sym (nth_closes s.bytes.now c.loop-i.i s.to c.loop-i.rest (omega arith) (sym c.opens.ensures ∙ w.if-opens.false)) ∙ c.loop-i.invariant)
-    ]
+  | then-opens+else-rest-eq0 w ↦
+      rw w.rest-is (sym (nth_opens s.bytes.now c.loop-i.i s.to c.loop-i.rest (omega arith) (sym c.opens.ensures ∙ w.if-opens.true) (omega arith)) ∙ c.loop-i.invariant)
+  | else-opens w ↦
+      rw w.rest-is (sym (nth_closes s.bytes.now c.loop-i.i s.to c.loop-i.rest (omega arith) (sym c.opens.ensures ∙ w.if-opens.false)) ∙ c.loop-i.invariant)
+]
 
 pub returns : goal.returns
 returns c = let s = c.args in
