@@ -5,15 +5,15 @@ use mathlib.Core.List.{List, [], ◌∷◌}
 use Prim.Native.Nat.{ℕ, ◌+◌, ◌*◌, ◌≤◌}
 use native.Mathlib.Omega.{arith}
 use lib.IntN.{ℤ}
-use lib.ListN.{length, take, drop, get_or}
-use lib.Seq.{sets, length-sets}
+use lib.ListN.{length, take, get_or}
+use lib.Seq.{length-sets}
 use Rattle.word.specs.Bits.{word}
 use Rattle.fill.proofs.Fill.{drop_three}
 use Rattle.index.specs.Shape.{height}
 use Rattle.question.specs.Reply.{Reply}
 use Rattle.question.specs.Answer.{answer_of, answer_to}
 use Rattle.question.proofs.Demands.{asked}
-use Rattle.batch.specs.Batch.{refusal, three, answers_of, batch_answers}
+use Rattle.batch.specs.Batch.{three, answers_of, batch_answers}
 use Rattle.batch.proofs.Refusals.{Accepted, accepted}
 use Rattle.batch.proofs.Answers.{reads_few}
 use Rattle.batch.proofs.Settled.{own_place}

@@ -1,5 +1,5 @@
 -- Which question three numbers ask, after the checks of its places; or the number of the first check that fails.
-use Rattle.std.specs.Prelude.{Bool, true, false, cond, not, List, [], ◌∷◌, ℕ, zero, suc, ltb, leb, eqb, length, get_or}
+use Rattle.std.specs.Prelude.{Bool, true, false, cond, not, List, [], ◌∷◌, ℕ, zero, suc, ltb, eqb, length, get_or}
 use Rattle.judge.specs.First.{first_of}
 use Rattle.question.specs.declared.Question.{Question}
 use Rattle.question.specs.declared.Question.TheVariants.{Depth, Number, WithNumber, Closing, Opening, Parent, Ancestor, Branch, Children, FirstChild, NextSibling, Nearest, Lowest, Holds, Refused}

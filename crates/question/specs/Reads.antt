@@ -1,5 +1,5 @@
 -- How many index entries a question reads: those of the walks that document 01's table names for its kind.
-use Rattle.std.specs.Prelude.{Bool, true, false, cond, List, ℕ, suc, ◌+◌, ◌-◌, ◌/◌, min, max, eqb, ltb, length, get_or, ℤ, pos, negsuc, neg_ℤ, ◌-ℤ◌}
+use Rattle.std.specs.Prelude.{Bool, false, cond, List, ℕ, suc, ◌+◌, ◌-◌, ◌/◌, min, max, eqb, ltb, length, get_or, pos, negsuc, neg_ℤ, ◌-ℤ◌}
 use Rattle.std.proofs.Math.Option.{Option, none, some}
 use Rattle.std.specs.Int.Signed.{le_z}
 use Rattle.walk.specs.Walk.{Reach}

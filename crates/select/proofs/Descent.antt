@@ -16,7 +16,7 @@ use Rattle.word.proofs.Signed.{zarith, by_test}
 use Rattle.summary.specs.declared.Summary.{Summary}
 use Rattle.summary.specs.Stretch.{summary_of}
 use Rattle.summary.proofs.Meaning.{total_is, opens_twice}
-use Rattle.index.specs.Shape.{height, block, entry}
+use Rattle.index.specs.Shape.{height, entry}
 use Rattle.index.proofs.Height.{leaves_few, height_small}
 use Rattle.index.proofs.Level.{Level, level_left, level_right, level_high, below_leaves}
 use Rattle.walk.specs.Scan.{nth}

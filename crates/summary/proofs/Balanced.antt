@@ -6,7 +6,7 @@ use mathlib.Core.List.{List, [], ◌∷◌, ◌++◌}
 use Prim.Native.Nat.{ℕ, zero, suc, ◌≤◌}
 use lib.ListN.{length, take}
 use lib.Seq.{take-length}
-use lib.IntN.{ℤ, pos, negsuc, ◌+ℤ◌, ◌-ℤ◌, +ℤ_idl}
+use lib.IntN.{ℤ, pos, negsuc, ◌+ℤ◌, +ℤ_idl}
 use lib.Signed.{◌≤ℤ◌, ◌<ℤ◌}
 use Rattle.word.specs.Forest.{Forest, empty, tree, encode, Balanced, D}
 use Rattle.word.specs.Parse.{is_balanced}

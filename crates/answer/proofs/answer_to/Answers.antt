@@ -1,5 +1,4 @@
 -- `answer_to` meets its contract: in each arm the question is that arm's, and its places were checked.
-use borrow.Author.Rules.{rules}
 use mathlib.Core.Path.{◌≡◌, sym, ap, subst, ◌∙◌}
 use mathlib.Core.Bool.{Bool}
 use mathlib.Core.List.{List}

@@ -1,5 +1,4 @@
 -- `backward` meets its contract.
-use borrow.Author.Rules.{rules}
 use mathlib.Core.Path.{ap, ◌∙◌}
 use Prim.Native.Nat.{◌-◌}
 use lib.IntN.{◌+ℤ◌}
@@ -7,11 +6,10 @@ use mir.Syntax.{w64}
 use mir.Val.{to_z, of_z}
 use mir.Facts.{to_z-of_z}
 use Rattle.word.specs.Bits.{bit, word}
-use Rattle.word.proofs.Signed.{zarith}
 use Rattle.summary.specs.Stretch.{step}
 use Rattle.index.specs.Shape.{height}
 use Rattle.walk.proofs.Machine.{back64, by_step}
-use Rattle.backward.proofs.Whole.{none_before, stepped_near, found_near, begin, found_far}
+use Rattle.backward.proofs.Whole.{none_before, found_near, begin, found_far}
 use Rattle.backward.proofs.backward.Goals as goal
 
 pub returns-then-p-eq0 : goal.returns-then-p-eq0

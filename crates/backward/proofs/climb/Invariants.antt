@@ -1,11 +1,7 @@
 -- `climb` meets its contract: what is left of the climb gives what the whole gives.
-use mathlib.Core.Path.{sym, ◌∙◌}
-use Rattle.word.proofs.Signed.{zarith}
 use Rattle.index.specs.Lent.{entry_at}
-use Rattle.walk.proofs.Machine.{back64}
 use Rattle.backward.specs.Steps.{climb_of}
-use Rattle.walk.proofs.Room.{Climbing, climb_start}
-use Rattle.backward.proofs.Climbing.{climbed_root, climbed_hit, climbed_on}
+use Rattle.walk.proofs.Room.{Climbing}
 use Rattle.backward.proofs.climb.Given as goal
 
 abbrev pub invariant-loop-w : goal.invariant-loop-w

@@ -1,10 +1,8 @@
 -- `descend` meets its contract: what is left of the way down gives what the whole gives.
 use Prim.Native.Nat.{◌-◌}
-use Rattle.word.proofs.Signed.{zarith}
 use Rattle.index.specs.Lent.{entry_at}
 use Rattle.backward.specs.Steps.{descent_of}
-use Rattle.walk.proofs.Room.{Sinking, sink_start, sink_on}
-use Rattle.backward.proofs.Sinking.{sunk_leaf, step_down}
+use Rattle.walk.proofs.Room.{Sinking}
 use Rattle.backward.proofs.descend.Given as goal
 
 abbrev pub invariant-loop-w : goal.invariant-loop-w

@@ -1,5 +1,4 @@
 -- `leaf` meets its contract.
-use borrow.Author.Rules.{rules}
 use mathlib.Core.Path.{◌∙◌}
 use Rattle.walk.proofs.Machine.{back64}
 use Rattle.backward.proofs.Ends.{leaf_is}

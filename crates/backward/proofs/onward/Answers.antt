@@ -1,5 +1,4 @@
 -- `onward` meets its contract.
-use borrow.Author.Rules.{rules}
 use mathlib.Core.Path.{◌∙◌}
 use Rattle.walk.proofs.Room.{footing}
 use Rattle.walk.proofs.Whole.{held, leaf_there, landing, entered}

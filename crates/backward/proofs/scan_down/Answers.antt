@@ -1,15 +1,14 @@
 -- `scan_down` meets its contract: what is left of the scan gives what the whole gives.
-use mathlib.Core.Path.{◌≡◌, refl, sym, ap, ◌∙◌}
-use Prim.Native.Nat.{◌+◌, ◌-◌, ◌≤◌}
+use mathlib.Core.Path.{sym, ap, ◌∙◌}
+use Prim.Native.Nat.{◌-◌}
 use mir.Syntax.{w64}
 use mir.Val.{to_z}
 use mir.Facts.{to_z-of_z}
-use lib.IntN.{◌+ℤ◌, nat_abs}
+use lib.IntN.{◌+ℤ◌}
 use Rattle.word.specs.Bits.{bit}
 use Rattle.word.proofs.Signed.{zarith}
 use Rattle.summary.specs.Stretch.{step}
 use Rattle.walk.proofs.Machine.{by_step}
-use Rattle.backward.specs.Steps.{scan_down}
 use Rattle.backward.proofs.Scan.{scan_end, turn_met, turn_next, turn_near}
 use Rattle.backward.proofs.scan_down.Goals as goal
 

@@ -1,16 +1,8 @@
 -- `scan_down` meets its contract: what is left of the scan gives what the whole gives.
-use mathlib.Core.Path.{◌≡◌, refl, sym, ap, ◌∙◌}
+use mathlib.Core.Path.{◌≡◌}
 use Prim.Native.Nat.{◌+◌, ◌-◌, ◌≤◌}
-use mir.Syntax.{w64}
-use mir.Val.{to_z}
-use mir.Facts.{to_z-of_z}
-use lib.IntN.{◌+ℤ◌, nat_abs}
-use Rattle.word.specs.Bits.{bit}
-use Rattle.word.proofs.Signed.{zarith}
-use Rattle.summary.specs.Stretch.{step}
-use Rattle.walk.proofs.Machine.{by_step}
+use lib.IntN.{nat_abs}
 use Rattle.backward.specs.Steps.{scan_down}
-use Rattle.backward.proofs.Scan.{scan_end, turn_met, turn_next, turn_near}
 use Rattle.backward.proofs.scan_down.Given as goal
 
 abbrev pub invariant-loop-i : goal.invariant-loop-i

@@ -1,9 +1,7 @@
 -- `answer_all` meets its contract: at each turn the question's own answer stands at its place. Assumes nothing.
 use Prim.Native.Nat.{◌-◌}
-use native.Mathlib.Omega.{arith}
-use borrow.Author.Rules.{rules}
 use lib.ListN.{length}
-use Rattle.batch.proofs.Turns.{Done, done_none, done_next, done_all}
+use Rattle.batch.proofs.Turns.{Done}
 use Rattle.batch.proofs.answer_all.Given as goal
 
 abbrev pub invariant-loop-at : goal.invariant-loop-at

@@ -2,7 +2,6 @@
 use mathlib.Core.Path.{sym, ◌∙◌}
 use Rattle.batch.proofs.Refusals.{accepted, asked_of}
 use Rattle.batch.proofs.Settled.{ends_refused, ends_answered}
-use borrow.Author.Rules.{rules}
 use Rattle.batch.proofs.batch.Goals as goal
 
 pub returns-then-code-ne0 : goal.returns-then-code-ne0

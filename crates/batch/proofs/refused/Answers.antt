@@ -1,9 +1,7 @@
 -- `refused` meets its contract: the tests in document 01's order. Assumes nothing.
 use mathlib.Core.Path.{sym, ◌∙◌}
 use native.Mathlib.Omega.{arith}
-use borrow.Author.Tests.{not-true, not-false}
 use Rattle.batch.proofs.Refusals.{refused_1, refused_2, refused_3, refused_4, refused_5, judging}
-use borrow.Author.Rules.{rules}
 use Rattle.batch.proofs.refused.Goals as goal
 
 pub returns-then-m-gt2097152 : goal.returns-then-m-gt2097152

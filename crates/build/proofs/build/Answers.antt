@@ -1,7 +1,6 @@
 -- `build` meets its contract: refused, or filled. Assumes nothing.
 use mathlib.Core.Path.{sym, ◌∙◌}
 use Rattle.build.proofs.Refusal.{accepted, ends_refused, ends_built}
-use borrow.Author.Rules.{rules}
 use Rattle.build.proofs.build.Goals as goal
 
 pub returns-then-code-ne0 : goal.returns-then-code-ne0

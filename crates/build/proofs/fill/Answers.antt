@@ -2,10 +2,9 @@
 use mathlib.Core.Path.{◌≡◌}
 use Prim.Native.Nat.{◌+◌, ◌-◌}
 use native.Mathlib.Omega.{arith}
-use borrow.Author.Rules.{rules}
 use Rattle.index.proofs.Height.{few_leaves}
 use Rattle.entry.proofs.Entries.{room}
-use Rattle.build.proofs.Filled.{Filled, fill_none, fill_long, fill_known, fill_next, fill_all}
+use Rattle.build.proofs.Filled.{fill_none, fill_known, fill_next, fill_all}
 use Rattle.build.proofs.fill.Goals as goal
 
 pub overflow_mul-k : goal.overflow_mul-k

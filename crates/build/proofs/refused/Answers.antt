@@ -1,8 +1,6 @@
 -- `refused` meets its contract: the tests in document 01's order. Assumes nothing.
 use mathlib.Core.Path.{sym, ◌∙◌}
 use native.Mathlib.Omega.{arith}
-use borrow.Author.Rules.{rules}
-use borrow.Author.Tests.{not-true, not-false}
 use Rattle.build.proofs.Refusal.{refused_1, refused_2, refused_3, judging}
 use Rattle.build.proofs.refused.Goals as goal
 

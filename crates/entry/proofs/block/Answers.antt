@@ -5,7 +5,6 @@ use native.Mathlib.Omega.{arith}
 use Rattle.summary.specs.Stretch.{summary_of}
 use Rattle.summary.specs.Join.{empty_of}
 use Rattle.entry.proofs.Blocks.{block_to, block_past}
-use borrow.Author.Rules.{rules}
 use Rattle.entry.proofs.block.Goals as goal
 
 pub returns-then-end-from : goal.returns-then-end-from

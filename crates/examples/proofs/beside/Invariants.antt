@@ -1,6 +1,5 @@
 -- `beside` prints each question with its answer. Assumes nothing.
 use Prim.Native.Nat.{◌-◌, ◌≤◌}
-use borrow.Author.Rules.{rules}
 use lib.ListN.{length}
 use Rattle.examples.proofs.beside.Given as goal
 

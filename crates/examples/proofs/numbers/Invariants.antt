@@ -1,6 +1,5 @@
 -- `numbers` prints each number in turn. Assumes nothing.
 use Prim.Native.Nat.{◌-◌, ◌≤◌}
-use borrow.Author.Rules.{rules}
 use lib.ListN.{length}
 use Rattle.examples.proofs.numbers.Given as goal
 

@@ -1,13 +1,9 @@
 -- `fill::copy` meets its contract. The invariant: what is left of src, written over dst as it is, gives what all of src written over dst as it was gives.
 -- The measure is what is left of src. Assumes nothing.
-use mathlib.Core.Path.{◌≡◌, refl, sym, ◌∙◌}
+use mathlib.Core.Path.{◌≡◌}
 use Prim.Native.Nat.{◌+◌, ◌-◌, ◌≤◌}
-use native.Mathlib.Omega.{arith}
-use native.Mathlib.Nat.{add-zero}
-use borrow.Author.Rules.{rules}
-use lib.ListN.{length, drop, length-set}
+use lib.ListN.{length, drop}
 use lib.Seq.{sets}
-use Rattle.fill.proofs.Fill.{sets_next, sets_none}
 use Rattle.fill.proofs.copy.Given as goal
 
 abbrev pub invariant-loop-i : goal.invariant-loop-i

@@ -1,11 +1,7 @@
 -- `climb` meets its contract.
-use mathlib.Core.Path.{sym, ◌∙◌}
-use Rattle.word.proofs.Signed.{zarith}
 use Rattle.index.specs.Lent.{entry_at}
-use Rattle.walk.proofs.Machine.{back64}
-use Rattle.walk.proofs.Room.{Climbing, climb_start}
+use Rattle.walk.proofs.Room.{Climbing}
 use Rattle.forward.specs.Steps.{climb_of}
-use Rattle.forward.proofs.Climbing.{climbed_root, climbed_hit, climbed_on}
 use Rattle.forward.proofs.climb.Given as goal
 
 abbrev pub invariant-loop-w : goal.invariant-loop-w

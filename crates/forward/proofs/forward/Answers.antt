@@ -1,8 +1,6 @@
 -- `forward` meets its contract.
-use borrow.Author.Rules.{rules}
 use mathlib.Core.Path.{◌∙◌}
 use mir.Facts.{to_z-of_z}
-use Rattle.word.proofs.Signed.{zarith}
 use Rattle.walk.proofs.Machine.{back64}
 use Rattle.forward.proofs.Whole.{begin, found_near, found_far}
 use Rattle.forward.proofs.forward.Goals as goal

@@ -1,13 +1,11 @@
 -- `house::read` meets its contract. The invariant is `Reading`: what is still to come, laid over the lent slices as they are, gives what the whole file gives.
 -- The measure is what is left of the file. Each arm cites the law of its kind of field. Assumes nothing.
 use mathlib.Core.Path.{sym, ap, ◌∙◌}
-use Prim.Native.Nat.{◌-◌}
 use native.Mathlib.Omega.{arith}
-use borrow.Author.Rules.{rules}
 use lib.ListN.{length}
 use Rattle.house.proofs.Fields.{sound_as}
 use Rattle.house.proofs.Steps.{value_length}
-use Rattle.house.proofs.Loop.{Reading, too_long, begins, stops, past_size, past_word, past_question, ends}
+use Rattle.house.proofs.Loop.{too_long, begins, past_size, past_word, past_question}
 use Rattle.house.proofs.read.Goals as goal
 
 pub returns-then-file-gt49152 : goal.returns-then-file-gt49152

@@ -1,7 +1,6 @@
 -- `fill_largest` stays within the file. Assumes nothing.
 use mathlib.Core.Path.{◌≡◌}
 use Prim.Native.Nat.{◌-◌, ◌≤◌}
-use borrow.Author.Rules.{rules}
 use lib.ListN.{length}
 use Rattle.houses.proofs.fill_largest.Given as goal
 

@@ -1,6 +1,5 @@
 -- `last_line` stays within the text. Assumes nothing.
 use Prim.Native.Nat.{◌≤◌}
-use borrow.Author.Rules.{rules}
 use lib.ListN.{length}
 use Rattle.houses.proofs.last_line.Given as goal
 

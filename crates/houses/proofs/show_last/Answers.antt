@@ -2,7 +2,6 @@
 use mathlib.Core.Path.{sym}
 use lib.Seq.{length-take-le}
 use Rattle.run.proofs.Settled.{ran_inside}
-use borrow.Author.Rules.{rules}
 use Rattle.houses.proofs.show_last.Goals as goal
 
 pub slice_bounds-output-end : goal.slice_bounds-output-end

@@ -1,8 +1,6 @@
 -- `leaves` meets its contract: the power tried is never past L. Assumes nothing.
-use Prim.Native.Nat.{◌-◌}
 use native.Mathlib.Omega.{arith}
-use borrow.Author.Rules.{rules}
-use Rattle.index.proofs.Height.{Tried, tried_one, tried_more, tried_some, tried_enough}
+use Rattle.index.proofs.Height.{tried_more, tried_enough}
 use Rattle.index.proofs.leaves.Goals as goal
 
 pub loop-l-preserved : goal.loop-l-preserved

@@ -1,6 +1,5 @@
 -- `numbers_of` meets its contract. Assumes nothing.
 use native.Mathlib.Omega.{arith}
-use borrow.Author.Rules.{rules}
 use Rattle.index.proofs.Height.{few_leaves, numbers_are}
 use Rattle.index.proofs.numbers_of.Goals as goal
 

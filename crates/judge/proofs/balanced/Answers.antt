@@ -1,5 +1,4 @@
 -- `balanced` tells a balanced word, by its summary's total and least. Assumes nothing.
-use borrow.Author.Rules.{rules}
 use Rattle.judge.proofs.Tests.{by_least, by_total}
 use Rattle.judge.proofs.balanced.Goals as goal
 

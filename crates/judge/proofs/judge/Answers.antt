@@ -1,6 +1,5 @@
 -- `judge` gives the outcome that document 01 asks for. Assumes nothing.
 use mathlib.Core.Path.{ap, ◌∙◌}
-use borrow.Author.Rules.{rules}
 use Rattle.judge.specs.Judge.{outcome_of, judged}
 use Rattle.judge.proofs.Judged.{nothing_beside}
 use Rattle.judge.proofs.judge.Goals as goal

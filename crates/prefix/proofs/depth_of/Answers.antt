@@ -1,5 +1,4 @@
 -- `depth_of` meets its contract.
-use borrow.Author.Rules.{rules}
 use mathlib.Core.Path.{ap, ◌∙◌}
 use Prim.Native.Nat.{◌-◌}
 use Rattle.word.specs.Bits.{bits}

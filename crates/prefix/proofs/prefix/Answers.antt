@@ -1,8 +1,7 @@
 -- `prefix` meets its contract.
 use Rattle.word.proofs.Signed.{zarith}
-use Rattle.index.proofs.Height.{leaves_few}
 use Rattle.walk.proofs.Machine.{back64}
-use Rattle.prefix.proofs.Climb.{Kept, kept_start, stands, kept_end, lower, kept_on}
+use Rattle.prefix.proofs.Climb.{kept_start, kept_end, kept_on}
 use Rattle.prefix.proofs.prefix.Goals as goal
 
 pub loop-v-init : goal.loop-v-init

@@ -1,8 +1,5 @@
 -- `prefix` meets its contract.
-use Rattle.word.proofs.Signed.{zarith}
-use Rattle.index.proofs.Height.{leaves_few}
-use Rattle.walk.proofs.Machine.{back64}
-use Rattle.prefix.proofs.Climb.{Kept, kept_start, stands, kept_end, lower, kept_on}
+use Rattle.prefix.proofs.Climb.{Kept}
 use Rattle.prefix.proofs.prefix.Given as goal
 
 abbrev pub invariant-loop-v : goal.invariant-loop-v

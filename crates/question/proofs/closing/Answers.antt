@@ -1,5 +1,4 @@
 -- `closing` meets its contract.
-use borrow.Author.Rules.{rules}
 use Rattle.question.proofs.Checks.{closing_past, closing_opens, closing_closes}
 use Rattle.question.proofs.closing.Goals as goal
 

@@ -1,5 +1,4 @@
 -- `node` meets its contract.
-use borrow.Author.Rules.{rules}
 use Rattle.question.proofs.Checks.{node_past, node_opens, node_closes}
 use Rattle.question.proofs.node.Goals as goal
 

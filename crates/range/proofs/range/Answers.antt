@@ -1,7 +1,6 @@
 -- `range` meets its contract.
 use native.Mathlib.Omega.{arith}
-use Rattle.index.proofs.Height.{leaves_few}
-use Rattle.range.proofs.Climb.{Kept, near, kept_start, bounded_left, bounded_right, kept_end, joins, kept_on, lower}
+use Rattle.range.proofs.Climb.{near, kept_start, bounded_left, bounded_right, kept_end, joins, kept_on}
 use Rattle.range.proofs.range.Goals as goal
 
 pub returns-then-i-j : goal.returns-then-i-j

@@ -1,7 +1,5 @@
 -- `range` meets its contract.
-use native.Mathlib.Omega.{arith}
-use Rattle.index.proofs.Height.{leaves_few}
-use Rattle.range.proofs.Climb.{Kept, near, kept_start, bounded_left, bounded_right, kept_end, joins, kept_on, lower}
+use Rattle.range.proofs.Climb.{Kept}
 use Rattle.range.proofs.range.Given as goal
 
 abbrev pub invariant-loop-v : goal.invariant-loop-v

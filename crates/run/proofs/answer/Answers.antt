@@ -1,11 +1,8 @@
 -- `answer` meets its contract: the word's refusal, or the lines of the batch's answers. Assumes nothing.
-use mathlib.Core.Path.{sym}
 use native.Mathlib.Omega.{arith}
 use lib.IntN.{pos}
-use lib.ListN.{length, length-replicate}
-use lib.Seq.{length-take-le}
+use lib.ListN.{length-replicate}
 use Rattle.run.proofs.Answered.{ends_unbalanced, ends_answered}
-use borrow.Author.Rules.{rules}
 use Rattle.run.proofs.answer.Goals as goal
 
 pub returns-then-code-ne0 : goal.returns-then-code-ne0

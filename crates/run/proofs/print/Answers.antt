@@ -3,7 +3,6 @@ use mathlib.Core.Path.{sym}
 use native.Mathlib.Omega.{arith}
 use lib.Seq.{length-take-le}
 use Rattle.run.proofs.Printed.{ends_refused, few_asked, few_bytes, few_numbers, sound, ends_printed}
-use borrow.Author.Rules.{rules}
 use Rattle.run.proofs.print.Goals as goal
 
 pub returns-then-code-ne0 : goal.returns-then-code-ne0

@@ -1,13 +1,9 @@
 -- `same` meets its contract: at each turn the entries from k on have been found right. Assumes nothing.
-use mathlib.Core.Path.{◌≡◌, sym, ◌∙◌}
-use Prim.Native.Nat.{◌+◌, ◌-◌}
+use mathlib.Core.Path.{sym, ◌∙◌}
 use native.Mathlib.Omega.{arith}
-use borrow.Author.Rules.{rules}
-use borrow.Author.Tests.{not-true, not-false}
-use Rattle.entry.specs.Known.{Known}
 use Rattle.index.proofs.Height.{few_leaves}
 use Rattle.entry.proofs.Entries.{room}
-use Rattle.same.proofs.Checked.{same_none, same_next, same_not, same_all}
+use Rattle.same.proofs.Checked.{same_next, same_not, same_all}
 use Rattle.same.proofs.same.Goals as goal
 
 pub overflow_mul-k : goal.overflow_mul-k

@@ -1,10 +1,7 @@
 -- `scan` meets its contract.
-use mathlib.Core.Path.{◌≡◌, refl, sym, ◌∙◌}
-use mathlib.Core.Logic.{⊎_elim}
+use mathlib.Core.Path.{sym, ◌∙◌}
 use Prim.Native.Nat.{◌-◌}
 use native.Mathlib.Omega.{arith}
-use Rattle.word.specs.Bits.{bits}
-use Rattle.walk.specs.Scan.{nth}
 use Rattle.select.proofs.Leaf.{nth_end, nth_closes, nth_found, nth_opens}
 use Rattle.select.proofs.scan.Goals as goal
 use Rattle.select.proofs.scan.Goals.{then-opens+else-rest-eq0, else-opens}

@@ -1,11 +1,8 @@
 -- `scan` meets its contract.
-use mathlib.Core.Path.{◌≡◌, refl, sym, ◌∙◌}
-use mathlib.Core.Logic.{⊎_elim}
+use mathlib.Core.Path.{◌≡◌}
 use Prim.Native.Nat.{◌-◌}
-use native.Mathlib.Omega.{arith}
 use Rattle.word.specs.Bits.{bits}
 use Rattle.walk.specs.Scan.{nth}
-use Rattle.select.proofs.Leaf.{nth_end, nth_closes, nth_found, nth_opens}
 use Rattle.select.proofs.scan.Given as goal
 
 abbrev pub invariant-loop-i : goal.invariant-loop-i

@@ -1,6 +1,6 @@
 -- `select` meets its contract.
 use Rattle.word.proofs.Signed.{zarith}
-use Rattle.select.proofs.Descent.{Kept, kept_start, block_near, kept_end, over, kept_on, narrower}
+use Rattle.select.proofs.Descent.{block_near, kept_end, over, kept_on}
 use Rattle.select.proofs.select.Goals as goal
 
 pub down-v-requires : goal.down-v-requires

@@ -1,6 +1,5 @@
 -- `select` meets its contract.
-use Rattle.word.proofs.Signed.{zarith}
-use Rattle.select.proofs.Descent.{Kept, kept_start, block_near, kept_end, over, kept_on, narrower}
+use Rattle.select.proofs.Descent.{Kept}
 use Rattle.select.proofs.select.Given as goal
 
 abbrev pub invariant-loop-v : goal.invariant-loop-v

@@ -1,5 +1,4 @@
 -- `both` joins as the rule says: each sum fits, and each number is read back. Assumes nothing.
-use borrow.Author.Rules.{rules}
 use Rattle.summary.proofs.Machine.{held, made, add_small, count_small}
 use Rattle.summary.proofs.both.Goals as goal
 

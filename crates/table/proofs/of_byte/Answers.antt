@@ -2,7 +2,6 @@
 use Prim.Native.Nat.{◌+◌, ◌*◌}
 use native.Mathlib.Omega.{arith}
 use Rattle.table.proofs.Row.{number_is, row_is}
-use borrow.Author.Rules.{rules}
 use Rattle.table.proofs.of_byte.Goals as goal
 
 pub returns : goal.returns

@@ -1,5 +1,4 @@
 -- `whole` is the test that it names. Assumes nothing.
-use native.Mathlib.Omega.{arith}
 use borrow.Author.Tests.{eq-eqb, ne_eqb}
 use Rattle.table.specs.Rows.{whole_at}
 use Rattle.table.proofs.whole.Goals as goal

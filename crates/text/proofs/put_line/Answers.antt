@@ -1,8 +1,5 @@
 -- `text::put_line` meets its contract: three numbers, one after the other. Assumes nothing.
-use native.Mathlib.Omega.{arith}
-use Rattle.text.proofs.Numbers.{number_few}
 use Rattle.text.proofs.Put.{put_append}
-use borrow.Author.Rules.{rules}
 use Rattle.text.proofs.put_line.Goals as goal
 
 pub returns : goal.returns

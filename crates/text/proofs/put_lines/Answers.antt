@@ -1,14 +1,10 @@
 -- `text::put_lines` meets its contract. The invariant: the lines still to come, written over the slice as it is, give what all the lines give.
 -- The measure is what is left of the answers. Assumes nothing.
-use mathlib.Core.Path.{◌≡◌, refl}
-use mathlib.Core.List.{List}
-use Prim.Native.Nat.{ℕ, ◌+◌, ◌-◌, ◌*◌, ◌%◌, ◌≤◌}
+use Prim.Native.Nat.{◌+◌}
 use native.Mathlib.Omega.{arith}
 use borrow.Author.Rules.{rules}
-use lib.ListN.{length, drop, get_or}
-use lib.Seq.{drop-length}
-use Rattle.text.specs.Text.{lines}
-use Rattle.text.proofs.Put.{Left, left_step, left_end}
+use lib.ListN.{get_or}
+use Rattle.text.proofs.Put.{left_step}
 use Rattle.text.proofs.Lines.{lines_step, line_few}
 use Rattle.text.proofs.put_lines.Goals as goal
 

@@ -1,15 +1,11 @@
 -- `text::put_lines` meets its contract. The invariant: the lines still to come, written over the slice as it is, give what all the lines give.
 -- The measure is what is left of the answers. Assumes nothing.
-use mathlib.Core.Path.{◌≡◌, refl}
+use mathlib.Core.Path.{◌≡◌}
 use mathlib.Core.List.{List}
-use Prim.Native.Nat.{ℕ, ◌+◌, ◌-◌, ◌*◌, ◌%◌, ◌≤◌}
-use native.Mathlib.Omega.{arith}
-use borrow.Author.Rules.{rules}
-use lib.ListN.{length, drop, get_or}
-use lib.Seq.{drop-length}
+use Prim.Native.Nat.{ℕ, ◌-◌, ◌*◌, ◌%◌, ◌≤◌}
+use lib.ListN.{length, drop}
 use Rattle.text.specs.Text.{lines}
-use Rattle.text.proofs.Put.{Left, left_step, left_end}
-use Rattle.text.proofs.Lines.{lines_step, line_few}
+use Rattle.text.proofs.Put.{Left}
 use Rattle.text.proofs.put_lines.Given as goal
 
 pub record Lines (answers out₀ out : List ℕ) (at i : ℕ) : Type 0 where

@@ -1,5 +1,4 @@
 -- `ancestor` meets its contract.
-use borrow.Author.Rules.{rules}
 use mathlib.Core.Path.{ap, ◌∙◌}
 use native.Mathlib.Omega.{arith}
 use Rattle.word.specs.Bits.{word}

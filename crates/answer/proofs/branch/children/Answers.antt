@@ -1,6 +1,5 @@
 -- `children` meets its contract.
-use borrow.Author.Rules.{rules}
-use mathlib.Core.Path.{sym, ◌∙◌}
+use mathlib.Core.Path.{◌∙◌}
 use native.Mathlib.Omega.{arith}
 use Rattle.answer.proofs.Walked.{row}
 use Rattle.answer.proofs.Told.{next_in, childless_told}

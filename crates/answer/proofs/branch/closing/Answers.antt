@@ -1,5 +1,4 @@
 -- `closing` meets its contract.
-use borrow.Author.Rules.{rules}
 use mathlib.Core.Path.{◌∙◌}
 use native.Mathlib.Omega.{arith}
 use Rattle.answer.proofs.Walked.{row}

@@ -1,8 +1,7 @@
 -- `end_of` meets its contract.
-use borrow.Author.Rules.{rules}
 use native.Mathlib.Omega.{arith}
 use Rattle.answer.proofs.Walked.{row, node_in}
-use Rattle.answer.proofs.Told.{end_at, end_nothing}
+use Rattle.answer.proofs.Told.{end_nothing}
 use Rattle.answer.proofs.branch.end_of.Goals as goal
 
 pub forward-found-requires : goal.forward-found-requires

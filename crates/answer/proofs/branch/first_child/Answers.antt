@@ -1,5 +1,4 @@
 -- `first_child` meets its contract.
-use borrow.Author.Rules.{rules}
 use mathlib.Core.Path.{◌∙◌}
 use native.Mathlib.Omega.{arith}
 use Rattle.answer.proofs.Told.{next_in, child_told, no_child}

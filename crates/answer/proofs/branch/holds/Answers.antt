@@ -1,5 +1,4 @@
 -- `holds` meets its contract.
-use borrow.Author.Rules.{rules}
 use mathlib.Core.Path.{◌∙◌}
 use Rattle.answer.proofs.Walked.{row}
 use Rattle.answer.proofs.Told.{held_told, beyond_told, before_told}

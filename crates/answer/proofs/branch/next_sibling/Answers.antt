@@ -1,5 +1,4 @@
 -- `next_sibling` meets its contract.
-use borrow.Author.Rules.{rules}
 use mathlib.Core.Path.{◌∙◌}
 use Rattle.answer.proofs.Walked.{row}
 use Rattle.answer.proofs.Told.{sibling_told, no_sibling, last_told}

@@ -1,6 +1,5 @@
 -- `lowest` meets its contract.
 use mathlib.Core.Path.{◌∙◌}
-use native.Mathlib.Omega.{arith}
 use Rattle.answer.proofs.Walked.{row}
 use Rattle.answer.proofs.Told.{lowest_same}
 use Rattle.answer.proofs.pairs.lowest.Goals as goal

@@ -1,5 +1,4 @@
 -- `nearest` meets its contract.
-use borrow.Author.Rules.{rules}
 use mathlib.Core.Path.{sym, ◌∙◌}
 use native.Mathlib.Omega.{arith}
 use Rattle.answer.proofs.Walked.{row, node_in}

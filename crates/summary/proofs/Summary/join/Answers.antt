@@ -1,5 +1,4 @@
 -- `Summary::join` meets its contract: "if either count is 0 the other stands". Assumes nothing.
-use borrow.Author.Rules.{rules}
 use mathlib.Core.Path.{sym, ◌∙◌}
 use lib.IntN.{pos}
 use mir.Facts.{sfits_lit}
