@@ -19,7 +19,7 @@ pub not_true : (b : Bool) → (b ≡ true → ⊥) → b ≡ false
 not_true true f = absurd (f refl)
 not_true false f = refl
 
--- go by a test: `by-test (le_z a b) (λ e. ..) (λ e. ..)`
+-- go by a test: `by_test (le_z a b) (λ e. ..) (λ e. ..)`
 pub by_test {ℓ} : {A : Type ℓ} (b : Bool) → (b ≡ true → A) → (b ≡ false → A) → A
 by_test true f g = f refl
 by_test false f g = g refl

@@ -20,7 +20,6 @@ sound_at : {bytes : List ℕ} {idx : List ℤ} {m l : ℕ} (r : Ready bytes idx 
 sound_at {bytes} {idx} {m} r = subst (Sound (word bytes m))
 
 -- what the arm gives is the answer to the question
-
 told_at : (w : List Bool) {q p : Question} {x : Answer} → q ≡ p → x ≡ answer_to w p → x ≡ answer_to w q
 told_at w e d = d ∙ ap (answer_to w) (sym e)
 
