@@ -41,7 +41,7 @@ def program():
 def printed(file):
     """What the program prints for a house file."""
     if not os.path.exists(program()):
-        sys.exit(f"no program at {program()}: make it with `rt check lineage`, or name it in LINEAGE_PROGRAM")
+        sys.exit(f"no program at {program()}: make it with `tools/build program`, or name it in LINEAGE_PROGRAM")
     return subprocess.run([program()], input=file, stdout=subprocess.PIPE, timeout=10, check=False).stdout.decode()
 
 

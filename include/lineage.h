@@ -1,6 +1,6 @@
 /*
  * The C face of the lineage library: three calls on lent memory.
- * Usable from C99 and from C++. Link target/staticlib/liblineage_c.a, which `rt staticlib lineage_c` makes.
+ * Usable from C99 and from C++. Link target/staticlib/liblineage_c.a, which `tools/build archive` makes.
  *
  * Words of the trade. A word has m bits; bit i is in byte i/8 and has weight 2^(i mod 8) there; 1 opens a
  * parenthesis and 0 closes it. A balanced word encodes an ordered forest of n = m/2 nodes; a node is named by the place

@@ -34,15 +34,15 @@ fn made(root: &Path) -> PathBuf {
     if folder.join(ARCHIVE).is_file() {
         return folder;
     }
-    let made = Command::new("rt")
-        .args(["staticlib", "lineage_c"])
+    let made = Command::new(root.join("tools/build"))
+        .arg("archive")
         .current_dir(root)
         .status();
     match made {
         Ok(status) if status.success() && folder.join(ARCHIVE).is_file() => folder,
-        Ok(status) => panic!("`rt staticlib lineage_c` ended with {status} and made no {ARCHIVE}"),
+        Ok(status) => panic!("`tools/build archive` ended with {status} and made no {ARCHIVE}"),
         Err(error) => panic!(
-            "{ARCHIVE} isn't in {}, and `rt staticlib lineage_c` can't be run: {error}. \
+            "{ARCHIVE} isn't in {}, and `tools/build archive` can't be run: {error}. \
              Name the archive's folder in LINEAGE_LIB_DIR.",
             folder.display()
         ),

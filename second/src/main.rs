@@ -118,7 +118,7 @@ fn setting(seconds: u64) -> Result<Setting, String> {
     let face = face::archive().ok_or_else(|| {
         format!(
             "no archive: {} wasn't there when this was built.\n\
-             Make it with `rt staticlib lineage_c`, or name its folder in LINEAGE_LIB_DIR, \
+             Make it with `tools/build archive`, or name its folder in LINEAGE_LIB_DIR, \
              and run again. `self` needs no archive.",
             face::ARCHIVE
         )
@@ -126,7 +126,7 @@ fn setting(seconds: u64) -> Result<Setting, String> {
     let program = program::path();
     if !program.is_file() {
         return Err(format!(
-            "no program: {} isn't there.\nMake it with `rt check lineage`, or name it in \
+            "no program: {} isn't there.\nMake it with `tools/build program`, or name it in \
              LINEAGE_PROGRAM, and run again.",
             program.display()
         ));
