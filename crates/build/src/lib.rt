@@ -42,6 +42,7 @@ fn refused(bytes: &[u8], m: u32, room: usize) -> u32
     0
 }
 
+#[tactic(auto, using(crate::proofs::Refusal::accepted), unfolding(crate::specs::Build::built_outcome, crate::specs::Build::built_index))]
 pub fn build(bytes: &[u8], m: u32, index: &mut [i32]) -> Outcome
     ensures { Built bytes.now m index.old result index.new }
 {

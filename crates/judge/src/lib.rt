@@ -22,6 +22,7 @@ pub fn bytes_of(m: u32) -> usize
 }
 
 // D ends at 0 and is never negative on the way.
+#[tactic(auto, using(crate::proofs::Tests::by_least, crate::proofs::Tests::by_total))]
 pub fn balanced(bytes: &[u8], m: u32) -> bool
     requires { (m ≤ 2097152) × (bytes_of m ≤ length bytes.now) }
     ensures { result ≡ is_balanced (word bytes.now m) }
