@@ -7,11 +7,11 @@ use lib.Dec.{T}
 use lib.IntN.{ℤ, pos, neg_ℤ, nat_abs, ◌-ℤ◌}
 use lib.Signed.{le_z, ◌≤ℤ◌, non_neg}
 use mir.Syntax.{w32, w64}
-use mir.Val.{Fits, SFits, to_z, of_z}
-use mir.Facts.{to_z_pos, to_z-of_z}
+use mir.Val.{Fits, to_z, of_z}
+use mir.Facts.{to_z-of_z}
 use Rattle.word.specs.Signed.{P}
 use Rattle.word.proofs.Signed.{zarith, abs_law, parts, -law, P_neg, N_neg}
-use Rattle.walk.proofs.Signed64.{zwide, small64}
+use Rattle.walk.proofs.Signed64.{small64}
 use Rattle.summary.proofs.Machine.{small}
 
 pub part_is : (x : ℤ) → pos 0 ≤ℤ x → nat_abs x ≡ P x
@@ -22,14 +22,8 @@ cast_fits x h k = (omega zarith, record { fits = omega (zarith, part_is x h) })
 
 -- "kind 7 from a by -b": b has 32 bits, so that -b fits 64
 module _ (b : ℕ) (f : Fits w32 b) where
-  narrow : to_z w64 b ≡ pos b
-  narrow = to_z_pos w64 (omega (arith, f))
-
-  pub back_is : pos 0 -ℤ to_z w64 b ≡ neg_ℤ (pos b)
-  back_is = rw narrow (omega (zarith, -law (pos 0) (pos b), P_neg (pos b), N_neg (pos b)))
-
-  pub back_fits : SFits w64 (pos 0 -ℤ to_z w64 b)
-  back_fits = rw narrow (omega (zwide, f, -law (pos 0) (pos b)))
+  pub back_is : {x : ℤ} → x ≡ pos b → pos 0 -ℤ to_z w64 (of_z w64 x) ≡ neg_ℤ (pos b)
+  back_is {x} e = rw (e, to_z-of_z (small64 (pos b) (omega (zarith, f, abs_law (pos b))))) (omega (zarith, -law (pos 0) (pos b), P_neg (pos b), N_neg (pos b)))
 
   pub back_near : nat_abs (neg_ℤ (pos b)) ≤ 8589934592
   back_near = omega (zarith, f, abs_law (neg_ℤ (pos b)), P_neg (pos b), N_neg (pos b))

@@ -6,38 +6,37 @@ use mathlib.Core.Option.{none, some}
 use Prim.Native.Nat.{ℕ, suc, pred, ◌+◌, ◌-◌, ◌/◌, ◌≤◌, ◌<◌}
 use native.Mathlib.Numerals.{add-one}
 use native.Mathlib.Omega.{arith}
-use borrow.Author.Tests.{lt-ltb, le-ltb, le-leb, lt-leb}
-use lib.Dec.{leb, ltb}
-use lib.IntN.{ℤ, pos, negsuc, neg_ℤ, ◌-ℤ◌}
+use borrow.Author.Tests.{lt-ltb, le-leb, leb-true, ltb-true}
+use lib.Dec.{T, leb, ltb}
+use lib.IntN.{ℤ, pos, negsuc, neg_ℤ, nat_abs, ◌-ℤ◌}
 use lib.ListN.{length, get_or, get_or-eq_default}
-use lib.Signed.{le_z, ◌≤ℤ◌}
+use lib.Signed.{le_z, non_neg, ◌≤ℤ◌}
 use mir.Syntax.{w64}
-use mir.Val.{to_z, of_z}
+use mir.Val.{Fits, to_z, of_z}
 use Rattle.word.specs.Bits.{bit, word}
 use Rattle.word.specs.Signed.{P}
 use Rattle.word.proofs.Bits.{bit_bits}
-use Rattle.word.proofs.Signed.{zarith, abs_law}
+use Rattle.word.proofs.Signed.{zarith, abs_law, by_test}
 use Rattle.summary.specs.declared.Summary.{Summary}
 use Rattle.index.specs.Shape.{height}
-use Rattle.walk.specs.declared.Found.{Found}
-use Rattle.walk.specs.declared.Found.TheVariants.{At, Nothing}
-use Rattle.walk.specs.Walk.{Reach, said}
+use Rattle.std.specs.Prelude as code
+use Rattle.std.specs.Prelude.{None, Some}
+use Rattle.walk.specs.declared.Counted.{Counted}
+use Rattle.walk.specs.Walk.{Reach, there, said}
 use Rattle.walk.specs.Forward.{forward}
 use Rattle.walk.specs.Backward.{backward}
 use Rattle.walk.specs.Prefix.{prefix}
 use Rattle.walk.specs.Select.{select}
 use Rattle.walk.specs.Range.{range}
-use Rattle.question.specs.declared.Question.TheVariants.{Depth, Number, WithNumber, Closing, Opening, Parent, Ancestor, Branch, Children, FirstChild, NextSibling, Nearest, Lowest, Holds, Refused}
+use Rattle.question.specs.declared.Question.TheVariants.{Depth, Number, WithNumber, Closing, Opening, Parent, Ancestor, Branch, Children, FirstChild, NextSibling, Nearest, Lowest, Holds}
 use Rattle.question.specs.Places.{IsNode, IsClosing}
-use Rattle.question.specs.Reply.{gives, refused, found, reply_of}
-use Rattle.question.specs.Reads.{reads_of}
+use Rattle.question.specs.Reply.{gives, refused, found}
 use Rattle.question.specs.Answer.{answer_to}
 use Rattle.question.proofs.Answers as by_walk
 use Rattle.question.proofs.Children as by_kids
 use Rattle.question.proofs.Ranges as by_range
-use Rattle.answer.specs.declared.End.{End}
 use Rattle.answer.specs.Ready.{Row, Ends, replied, reached_of}
-use Rattle.answer.proofs.Casts.{back_64}
+use Rattle.answer.proofs.Casts.{back_64, cast_fits, part_is}
 use Rattle.answer.proofs.Walked.{at, long, node_in, forward_near, prefix_near}
 
 -- what the code needs of the depth that a prefix walk gave
@@ -45,6 +44,8 @@ pub record Deep (d : ℤ) : Type 0 where
   pub sign : pos 0 ≤ℤ d
   pub back : to_z w64 (of_z w64 d) ≡ d
   pub low : P d ≤ 2097152
+  pub fits : T (non_neg d) × Fits w64 (nat_abs d)
+  pub cast : nat_abs (to_z w64 (of_z w64 d)) ≡ P d
 
 -- one walk alone: no entry was read before it
 alone : (x : Reach) → reached_of x 0 ≡ replied (found x.0) x.1
@@ -90,84 +91,83 @@ module _ {bytes : List ℕ} {m : ℕ} (r : Row bytes m) where
     abbrev end : ℕ → Reach
     end k = forward k w a (pos 0)
 
-    pub end_at : {x : Found} {q n : ℕ} → said x ≡ forward (height m) w a (pos 0) → x ≡ At q n → Ends bytes m a (record { past = q; reads = n })
-    end_at {x} {q} {n} e d =
-        let z : end (height m) ≡ (some q, n) = sym e ∙ ap said d in
-        record { past = ap (λ (y : Reach). y.0) z; reads = ap (λ (y : Reach). y.1) z }
+    -- the walk finds it, always
+    pub end_at : (x : Counted (code.Option ℕ)) → said x ≡ forward (height m) w a (pos 0) → Ends bytes m a (record { value = code.unwrap_or x.value 0; reads = x.reads })
+    end_at x e = go x.value x.reads e
+      where
+        go : (o : code.Option ℕ) (n : ℕ) → (there o, n) ≡ forward (height m) w a (pos 0) → Ends bytes m a (record { value = code.unwrap_or o 0; reads = n })
+        go None n e = absurd (by_walk.ends_some w r.balanced a node.opens (ap (λ (y : Reach). y.0) (to end (none, n) e)))
+        go (Some q) n e = record { past = ap (λ (y : Reach). y.0) (sym e); reads = ap (λ (y : Reach). y.1) (sym e) }
 
-    pub end_nothing : {x : Found} {n : ℕ} → said x ≡ forward (height m) w a (pos 0) → x ≡ Nothing n → ⊥
-    end_nothing {x} {n} e d = by_walk.ends_some w r.balanced a node.opens (ap (λ (y : Reach). y.0) (to end (said x) e ∙ ap said d))
-
-    module _ {e : End} (ends : Ends bytes m a e) where
-      past : (end (height (length w))).0 ≡ some e.past
-      past = to (λ k. (end k).0) (some e.past) (sym ends.past)
+    module _ {e : Counted ℕ} (ends : Ends bytes m a e) where
+      past : (end (height (length w))).0 ≡ some e.value
+      past = to (λ k. (end k).0) (some e.value) (sym ends.past)
 
       reads : (end (height (length w))).1 ≡ e.reads
       reads = to (λ k. (end k).1) e.reads (sym ends.reads)
 
-      pub end_after : a < e.past
-      end_after = by_walk.later w r.balanced a node.opens e.past e.reads past reads
+      pub end_after : a < e.value
+      end_after = by_walk.later w r.balanced a node.opens e.value e.reads past reads
 
-      pub end_within : e.past ≤ m
-      end_within = omega (arith, len, by_walk.within w r.balanced a node.opens e.past e.reads past reads)
+      pub end_within : e.value ≤ m
+      end_within = omega (arith, len, by_walk.within w r.balanced a node.opens e.value e.reads past reads)
 
       pub end_few : e.reads ≤ 1073741824
       end_few = omega (arith, ends.reads, (forward_near r a (pos 0) {x = end (height m)} (node_in r node) refl).few)
 
       -- kinds 4 and 8
-      pub closing_told : replied (gives (e.past - 1)) e.reads ≡ answer_to w (Closing a)
-      closing_told = ap (λ q. replied (gives q) e.reads) (let z : e.past - 1 ≡ pred e.past = omega arith in z)
-          ∙ by_walk.closing_is w r.balanced a node.opens e.past e.reads past reads
+      pub closing_told : replied (gives (e.value - 1)) e.reads ≡ answer_to w (Closing a)
+      closing_told = ap (λ q. replied (gives q) e.reads) (let z : e.value - 1 ≡ pred e.value = omega arith in z)
+          ∙ by_walk.closing_is w r.balanced a node.opens e.value e.reads past reads
 
-      pub branch_told : replied (gives ((e.past - a) / 2)) e.reads ≡ answer_to w (Branch a)
-      branch_told = by_walk.branch_is w r.balanced a node.opens e.past e.reads past reads
+      pub branch_told : replied (gives ((e.value - a) / 2)) e.reads ≡ answer_to w (Branch a)
+      branch_told = by_walk.branch_is w r.balanced a node.opens e.value e.reads past reads
 
       -- kind 11
-      sibling : (b : Bool) → get_or w e.past false ≡ b → replied (found (cond b (some e.past) none)) e.reads ≡ answer_to w (NextSibling a)
-      sibling b d = ap (λ t. replied (found (cond t (some e.past) none)) e.reads) (sym d)
-          ∙ by_walk.next_sibling_is w r.balanced a node.opens e.past e.reads past reads
+      sibling : (b : Bool) → get_or w e.value false ≡ b → replied (found (cond b (some e.value) none)) e.reads ≡ answer_to w (NextSibling a)
+      sibling b d = ap (λ t. replied (found (cond t (some e.value) none)) e.reads) (sym d)
+          ∙ by_walk.next_sibling_is w r.balanced a node.opens e.value e.reads past reads
 
-      pub sibling_told : {b : Bool} → e.past < m → b ≡ bit bytes e.past → b ≡ true → replied (gives e.past) e.reads ≡ answer_to w (NextSibling a)
-      sibling_told {b} l d t = sibling true (bit_is e.past l b false d ∙ t)
+      pub sibling_told : {b : Bool} → e.value < m → b ≡ bit bytes e.value → b ≡ true → replied (gives e.value) e.reads ≡ answer_to w (NextSibling a)
+      sibling_told {b} l d t = sibling true (bit_is e.value l b false d ∙ t)
 
-      pub no_sibling : {b : Bool} → e.past < m → b ≡ bit bytes e.past → b ≡ false → replied (refused 16) e.reads ≡ answer_to w (NextSibling a)
-      no_sibling {b} l d t = sibling false (bit_is e.past l b false d ∙ t)
+      pub no_sibling : {b : Bool} → e.value < m → b ≡ bit bytes e.value → b ≡ false → replied (refused 16) e.reads ≡ answer_to w (NextSibling a)
+      no_sibling {b} l d t = sibling false (bit_is e.value l b false d ∙ t)
 
-      pub last_told : m ≤ e.past → replied (refused 16) e.reads ≡ answer_to w (NextSibling a)
+      pub last_told : m ≤ e.value → replied (refused 16) e.reads ≡ answer_to w (NextSibling a)
       last_told l = sibling false (get_or-eq_default w false (omega (arith, len)))
 
       -- kind 14
       module _ {b : ℕ} (other : IsNode (word bytes m) b) where
-        holds : (t : Bool) → (leb a b && ltb b e.past) ≡ t → replied (gives (cond t 1 0)) e.reads ≡ answer_to w (Holds a b)
+        holds : (t : Bool) → (leb a b && ltb b e.value) ≡ t → replied (gives (cond t 1 0)) e.reads ≡ answer_to w (Holds a b)
         holds t d = ap (λ x. replied (gives (cond x 1 0)) e.reads) (sym d)
-            ∙ by_walk.holds_is w r.balanced a node.opens e.past e.reads past reads b other.opens
+            ∙ by_walk.holds_is w r.balanced a node.opens e.value e.reads past reads b other.opens
 
-        pub held_told : a ≤ b → b < e.past → replied (gives 1) e.reads ≡ answer_to w (Holds a b)
-        held_told l k = holds true (rw (le-leb a b l, lt-ltb b e.past k))
+        pub held_told : a ≤ b → b < e.value → replied (gives 1) e.reads ≡ answer_to w (Holds a b)
+        held_told l k = holds true (rw (le-leb a b l, lt-ltb b e.value k))
 
-        pub beyond_told : a ≤ b → e.past ≤ b → replied (gives 0) e.reads ≡ answer_to w (Holds a b)
-        beyond_told l k = holds false (rw (le-leb a b l, le-ltb b e.past k))
-
-        pub before_told : b < a → replied (gives 0) e.reads ≡ answer_to w (Holds a b)
-        before_told l = holds false (rw (lt-leb a b l))
+        pub beside_told : (a ≤ b → b < e.value → ⊥) → replied (gives 0) e.reads ≡ answer_to w (Holds a b)
+        beside_told f = holds false (by_test (leb a b)
+            (λ l. by_test (ltb b e.value) (λ k. absurd (f (leb-true a b l) (ltb-true b e.value k))) (λ k. rw (l, k)))
+            (λ l. rw l))
 
       -- kind 9: the bit after the opening tells a leaf, else the range to the closing counts
       pub childless_told : {b : Bool} → b ≡ bit bytes (a + 1) → b ≡ false → replied (gives 0) e.reads ≡ answer_to w (Children a)
-      childless_told {b} d t = by_kids.children_none w r.balanced a e.past e.reads node.opens past reads (next_is b true d ∙ t)
+      childless_told {b} d t = by_kids.children_none w r.balanced a e.value e.reads node.opens past reads (next_is b true d ∙ t)
 
       module _ (inner : bit bytes (a + 1) ≡ true) where
         opens : get_or w (suc a) false ≡ true
         opens = next_is true false (sym inner)
 
-        pub kids_between : (a + 1 < e.past - 1) × (e.past - 1 ≤ m)
+        pub kids_between : (a + 1 < e.value - 1) × (e.value - 1 ≤ m)
         kids_between =
-            let z = by_kids.between w r.balanced a e.past e.reads node.opens past reads opens in
+            let z = by_kids.between w r.balanced a e.value e.reads node.opens past reads opens in
             (omega (arith, z.0), omega (arith, len, z.1))
 
-        pub children_told : {s : Summary} {n : ℕ} → (s, n) ≡ range (height m) w (a + 1) (e.past - 1) →
+        pub children_told : {s : Summary} {n : ℕ} → (s, n) ≡ range (height m) w (a + 1) (e.value - 1) →
             replied (gives (P s.count)) (e.reads + n) ≡ answer_to w (Children a)
-        children_told {s} {n} d = by_kids.children_some w r.balanced a e.past e.reads node.opens past reads opens s n
-            (to (λ k. range k w (suc a) (e.past - 1)) (s, n) (rw add-one at d))
+        children_told {s} {n} d = by_kids.children_some w r.balanced a e.value e.reads node.opens past reads opens s n
+            (to (λ k. range k w (suc a) (e.value - 1)) (s, n) (rw add-one at d))
 
     -- ---- kinds 1 and 2
     module _ {d : ℤ} {n : ℕ} (e : (d, n) ≡ prefix (height m) (word bytes m) a) where
@@ -178,7 +178,10 @@ module _ {bytes : List ℕ} {m : ℕ} (r : Row bytes m) where
       deep =
           let near = prefix_near r a (node_in r node) e in
           let z = by_range.depth_nat w r.balanced a node.opens d n walked in
-          record { sign = omega zarith; back = back_64 d (omega arith); low = omega (zarith, abs_law d) }
+          let sign : pos 0 ≤ℤ d = omega zarith in
+          let low : P d ≤ 2097152 = omega (zarith, abs_law d) in
+          let back = back_64 d (omega arith) in
+          record { sign = sign; back = back; low = low; fits = cast_fits d sign (omega arith); cast = ap nat_abs back ∙ part_is d sign }
 
       pub depth_told : replied (gives (P d)) n ≡ answer_to w (Depth a)
       depth_told = by_range.depth_is w r.balanced a node.opens d n walked
@@ -240,8 +243,3 @@ module _ {bytes : List ℕ} {m : ℕ} (r : Row bytes m) where
 
   pub lowest_same : {a b : ℕ} → a ≡ b → replied (gives a) 0 ≡ answer_to w (Lowest a b)
   lowest_same {a} e = by_range.lowest_itself w r.balanced a ∙ ap (λ i. answer_to w (Lowest a i)) e
-
--- codes 11 to 15
-pub refused_told : (w : List Bool) (code : ℕ) → replied (refused code) 0 ≡ answer_to w (Refused code)
-unfolding reply_of reads_of
-refused_told w code = by_walk.answer_is w (Refused code) (refused code) 0 refl refl

@@ -8,9 +8,10 @@ use Prim.Native.Nat.{ℕ, ◌-◌, ◌*◌, ◌^◌, ◌≤◌, ◌<◌}
 use native.Mathlib.Omega.{arith}
 use lib.IntN.{ℤ, pos, nat_abs, ◌-ℤ◌}
 use lib.ListN.{length, take, drop, length-take, length-drop}
-use lib.Signed.{◌≤ℤ◌}
-use mir.Syntax.{w32}
-use mir.Val.{to_z, of_z}
+use lib.Dec.{T}
+use lib.Signed.{non_neg, ◌≤ℤ◌}
+use mir.Syntax.{w32, w64}
+use mir.Val.{Fits, to_z, of_z}
 use Rattle.word.specs.Bits.{word}
 use Rattle.word.specs.Signed.{P}
 use Rattle.word.proofs.Bits.{length_bits}
@@ -35,22 +36,25 @@ use Rattle.walk.proofs.Prefix.{prefix_is}
 use Rattle.walk.proofs.Range.{range_is, range_reads}
 use Rattle.walk.proofs.Select.{select_some, select_reads}
 use Rattle.question.specs.Places.{IsNode, IsClosing}
-use Rattle.answer.specs.Ready.{Ready, Row, Near}
-use Rattle.answer.proofs.Casts.{back_32}
+use Rattle.answer.specs.declared.balanced.Balanced.{Balanced}
+use Rattle.answer.specs.Ready.{Row, Near}
+use Rattle.answer.proofs.Casts.{back_32, cast_fits, part_is}
 
 -- what the code needs of a range's summary: count and least are read back from their bits as they were, and are small
 pub record Counted (s : Summary) (n : ℕ) : Type 0 where
   pub count : pos 0 ≤ℤ s.count
   pub count_back : to_z w32 (of_z w32 s.count) ≡ s.count
   pub count_small : P s.count ≤ 2097152
+  pub count_fits : T (non_neg s.count) × Fits w64 (nat_abs s.count)
+  pub count_cast : nat_abs (to_z w32 (of_z w32 s.count)) ≡ P s.count
   pub least_back : to_z w32 (of_z w32 s.least) ≡ s.least
   pub least_small : nat_abs s.least ≤ 8589934592
   pub less_small : nat_abs (s.least -ℤ pos 1) ≤ 8589934592
   pub few : n ≤ 1024
 
 -- the laws below need the bits alone
-pub row : {bytes : List ℕ} {idx : List ℤ} {m l : ℕ} → Ready bytes idx m l → Row bytes m
-row r = record { small = r.lent.small; enough = r.lent.enough; balanced = r.balanced }
+pub row : (x : Balanced) → Row x.lineage.row.bytes.now x.lineage.row.m
+row x = record { small = x.lineage.lent.small; enough = x.lineage.lent.enough; balanced = x.balanced }
 
 abbrev found_of : Reach → Option ℕ
 found_of x = x.0
@@ -59,10 +63,12 @@ abbrev reads_of : Reach → ℕ
 reads_of x = x.1
 
 counted : (s : Summary) (n : ℕ) → pos 0 ≤ℤ s.count → nat_abs s.count ≤ 2097152 → nat_abs s.least ≤ 2097152 → n ≤ 1024 → Counted s n
-counted s n c k l f = record {
+counted s n c k l f = let small : P s.count ≤ 2097152 = omega (zarith, abs_law s.count) in record {
   count = c;
   count_back = back_32 s.count k;
-  count_small = omega (zarith, abs_law s.count);
+  count_small = small;
+  count_fits = cast_fits s.count c (omega (arith, small));
+  count_cast = ap nat_abs (back_32 s.count k) ∙ part_is s.count c;
   least_back = back_32 s.least l;
   least_small = omega arith;
   less_small = omega (zarith, abs_law s.least, abs_law (s.least -ℤ pos 1), parts (s.least -ℤ pos 1), -law s.least (pos 1));

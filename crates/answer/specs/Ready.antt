@@ -1,29 +1,23 @@
 -- What an answer stands on, a balanced word with its own index lent beside it; and what the small steps give.
-use Rattle.std.specs.Prelude.{◌≡◌, true, List, ℕ, ◌+◌, ◌*◌, ◌≤◌, ℤ, pos, length}
+use Rattle.std.specs.Prelude.{◌≡◌, true, List, ℕ, ◌+◌, ◌*◌, ◌≤◌, pos, length}
 use Rattle.std.proofs.Math.Option.{some}
 use Rattle.word.specs.Bits.{word}
 use Rattle.word.specs.Parse.{is_balanced}
 use Rattle.index.specs.Shape.{height}
 use Rattle.walk.specs.Walk.{Reach}
-use Rattle.walk.specs.Lent.{Lent}
 use Rattle.walk.specs.Forward.{forward}
-use Rattle.question.specs.declared.Answer.{Answer}
+use Rattle.walk.specs.declared.Counted.{Counted}
+use Rattle.question.specs.Answer.{Answer}
 use Rattle.question.specs.Reply.{Reply, found}
-use Rattle.answer.specs.declared.End.{End}
 
-pub record Ready (bytes : List ℕ) (idx : List ℤ) (m l : ℕ) : Type 0 where
-  pub lent : Lent bytes idx m l
-  pub balanced : is_balanced (word bytes m) ≡ true
-
--- where the bits alone are asked
 pub record Row (bytes : List ℕ) (m : ℕ) : Type 0 where
   pub small : m ≤ 2097152
   pub enough : m ≤ 8 * length bytes
   pub balanced : is_balanced (word bytes m) ≡ true
 
 -- the forward walk by 0 from a, which finds the boundary past a's branch
-pub record Ends (bytes : List ℕ) (m a : ℕ) (r : End) : Type 0 where
-  pub past : (forward (height m) (word bytes m) a (pos 0)).0 ≡ some r.past
+pub record Ends (bytes : List ℕ) (m a : ℕ) (r : Counted ℕ) : Type 0 where
+  pub past : (forward (height m) (word bytes m) a (pos 0)).0 ≡ some r.value
   pub reads : (forward (height m) (word bytes m) a (pos 0)).1 ≡ r.reads
 
 abbrev pub replied : Reply → ℕ → Answer

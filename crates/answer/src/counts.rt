@@ -1,38 +1,37 @@
 // Kinds 1, 2 and 3: depth and number of a node, and the node with a number.
-ghost use Rattle.std.specs.Prelude.{◌≡◌, ◌<◌};
-ghost use Rattle.word.specs.Bits.{word};
+ghost use Rattle.std.specs.Prelude.{◌≡◌};
+ghost use Rattle.word.specs.Row.{word_of};
 ghost use Rattle.question.specs.Places.{IsNode};
 ghost use Rattle.question.specs.Answer.{answer_to};
-ghost use Rattle.answer.specs.Ready.{Ready};
+ghost use Rattle.answer.specs.Told.{told};
 
-use crate::{give, signed};
-use question::{Answer, Question};
+use crate::{Answer, Balanced, give};
+use question::Question;
 
 // Kind 1. D(a) is the depth of node a.
-pub(crate) fn depth(bytes: &[u8], m: usize, index: &[i32], l: usize, a: usize) -> Answer
-    requires { Ready bytes.now index.now m l × IsNode (word bytes.now m) a }
-    ensures { result ≡ answer_to (word bytes.now m) (Question.Depth a) }
+pub(crate) fn depth(of: &Balanced<'_>, a: usize) -> Answer
+    requires { IsNode (word_of of.now.lineage.row) a }
+    ensures { told result ≡ answer_to (word_of of.now.lineage.row) (Question.Depth a) }
 {
-    let d = prefix::prefix(bytes, m, index, l, a);
-    give::answered(signed::natural(d.depth), d.reads)
+    let d = prefix::prefix(&of.lineage, a);
+    give::answered(d.value as usize, d.reads)
 }
 
 // Kind 2. The openings before a are half of a and D(a): the node itself is not among them.
-pub(crate) fn number(bytes: &[u8], m: usize, index: &[i32], l: usize, a: usize) -> Answer
-    requires { Ready bytes.now index.now m l × IsNode (word bytes.now m) a }
-    ensures { result ≡ answer_to (word bytes.now m) (Question.Number a) }
+pub(crate) fn number(of: &Balanced<'_>, a: usize) -> Answer
+    requires { IsNode (word_of of.now.lineage.row) a }
+    ensures { told result ≡ answer_to (word_of of.now.lineage.row) (Question.Number a) }
 {
-    let d = prefix::prefix(bytes, m, index, l, a);
-    give::answered((a + signed::natural(d.depth)) / 2, d.reads)
+    let d = prefix::prefix(&of.lineage, a);
+    give::answered((a + d.value as usize) / 2, d.reads)
 }
 
 // Kind 3.
-pub(crate) fn with_number(bytes: &[u8], m: usize, index: &[i32], l: usize, r: usize) -> Answer
-    requires { Ready bytes.now index.now m l }
-    ensures { result ≡ answer_to (word bytes.now m) (Question.WithNumber r) }
+pub(crate) fn with_number(of: &Balanced<'_>, r: usize) -> Answer
+    ensures { told result ≡ answer_to (word_of of.now.lineage.row) (Question.WithNumber r) }
 {
-    if m / 2 <= r {
+    if of.lineage.row.m / 2 <= r {
         return give::missed(0);
     }
-    give::reached(select::select(bytes, m, index, l, r), 0)
+    give::reached(select::select(&of.lineage, r), 0)
 }

@@ -1,52 +1,53 @@
 // What every kind gives in the end: a result, or "no such node".
 ghost use Rattle.std.specs.Prelude.{◌≡◌, ◌≤◌};
 ghost use Rattle.walk.specs.Walk.{said};
+ghost use Rattle.question.specs.Fault.{number_of};
 ghost use Rattle.question.specs.Reply.{gives, refused};
 ghost use Rattle.answer.specs.Ready.{Near, replied, reached_of};
+ghost use Rattle.answer.specs.Told.{told};
 
-use question::Answer;
-use walk::Found;
+use crate::Answer;
+use question::Fault;
+use walk::Counted;
 
 pub(crate) fn answered(res: usize, reads: u32) -> Answer
     requires { res ≤ 4294967295 }
-    ensures { result ≡ replied (gives res) reads }
+    ensures { told result ≡ replied (gives res) reads }
 {
-    Answer {
-        code: 0,
-        result: res as u32,
-        reads: reads,
+    Counted {
+        value: Ok(res as u32),
+        reads,
     }
 }
 
 // "16 gives result 0 and the walk's reads"
 pub(crate) fn missed(reads: u32) -> Answer
-    ensures { result ≡ replied (refused 16) reads }
+    ensures { told result ≡ replied (refused 16) reads }
 {
-    Answer {
-        code: 16,
-        result: 0,
-        reads: reads,
+    Counted {
+        value: Err(Fault::NoNode),
+        reads,
     }
 }
 
 // "Codes 11 to 15 give result 0 and reads 0"
-pub(crate) fn refused(code: u32) -> Answer
-    ensures { result ≡ replied (refused code) 0 }
+pub(crate) fn refused(fault: Fault) -> Answer
+    ensures { told result ≡ replied (refused (number_of fault)) 0 }
 {
-    Answer {
-        code: code,
-        result: 0,
+    Counted {
+        value: Err(fault),
         reads: 0,
     }
 }
 
 // What the last walk found is the node asked for; where it found nothing there is no such node.
-pub(crate) fn reached(found: Found, reads: u32) -> Answer
-    requires { Near (said found) × (reads ≤ 1073741824) }
-    ensures { result ≡ reached_of (said found) reads }
+pub(crate) fn reached(found: Counted<Option<usize>>, before: u32) -> Answer
+    requires { Near (said found) × (before ≤ 1073741824) }
+    ensures { told result ≡ reached_of (said found) before }
 {
-    match found {
-        Found::At(p, n) => answered(p, reads + n),
-        Found::Nothing(n) => missed(reads + n),
+    let reads = before + found.reads;
+    match found.value {
+        Some(p) => answered(p, reads),
+        None => missed(reads),
     }
 }

@@ -1,65 +1,83 @@
 // Kinds 12 and 13: the range between two places, and the walk by its least.
-ghost use Rattle.std.specs.Prelude.{◌≡◌, ◌≤◌, ◌<◌};
-ghost use Rattle.word.specs.Bits.{word};
+ghost use Rattle.std.specs.Prelude.{◌≡◌, ◌≤◌, ◌<◌, pos, ◌-ℤ◌};
+ghost use Rattle.std.specs.Int.Signed.{le_z};
+ghost use Rattle.word.specs.Row.{word_of};
 ghost use Rattle.question.specs.Places.{IsNode};
 ghost use Rattle.question.specs.Answer.{answer_to};
-ghost use Rattle.answer.specs.Ready.{Ready};
+ghost use Rattle.answer.specs.Told.{told};
 
-use crate::{give, signed};
-use question::{Answer, Question};
+use crate::{Answer, Balanced, give};
+use question::Question;
+
+// Whether all boundaries of a range lie above its start.
+fn all_above(least: i32) -> bool
+    ensures { result ≡ le_z (pos 1) least }
+{
+    1 <= least
+}
+
+// Whether none lies below it.
+fn none_below(least: i32) -> bool
+    ensures { result ≡ le_z (pos 0) least }
+{
+    0 <= least
+}
+
+// "the range's least less 1"
+fn less_one(least: i32) -> i64
+    ensures { result ≡ least -ℤ pos 1 }
+{
+    i64::from(least) - 1
+}
 
 // Kind 12 of an earlier and a later node. Where the depth stays above the earlier one's, that one is the answer; else "12 goes back by the
 // range's least less 1".
-pub(crate) fn shared(bytes: &[u8], m: usize, index: &[i32], l: usize, a: usize, b: usize) -> Answer
-    requires { Ready bytes.now index.now m l × IsNode (word bytes.now m) a × IsNode (word bytes.now m) b × (a < b) }
-    ensures { result ≡ answer_to (word bytes.now m) (Question.Nearest a b) }
+fn shared(of: &Balanced<'_>, a: usize, b: usize) -> Answer
+    requires { IsNode (word_of of.now.lineage.row) a × IsNode (word_of of.now.lineage.row) b × (a < b) }
+    ensures { told result ≡ answer_to (word_of of.now.lineage.row) (Question.Nearest a b) }
 {
-    let r = range::range(bytes, m, index, l, a, b);
-    let s = r.summary;
-    let least = s.least;
-    if signed::positive(least) {
+    let r = range::range(&of.lineage, a, b);
+    if all_above(r.value.least) {
         return give::answered(a, r.reads);
     }
-    let back = signed::less_one(least);
-    give::reached(backward::backward(bytes, m, index, l, a, back), r.reads)
+    let back = less_one(r.value.least);
+    give::reached(backward::backward(&of.lineage, a, back), r.reads)
 }
 
 // Kind 12.
-pub(crate) fn nearest(bytes: &[u8], m: usize, index: &[i32], l: usize, a: usize, b: usize) -> Answer
-    requires { Ready bytes.now index.now m l × IsNode (word bytes.now m) a × IsNode (word bytes.now m) b }
-    ensures { result ≡ answer_to (word bytes.now m) (Question.Nearest a b) }
+pub(crate) fn nearest(of: &Balanced<'_>, a: usize, b: usize) -> Answer
+    requires { IsNode (word_of of.now.lineage.row) a × IsNode (word_of of.now.lineage.row) b }
+    ensures { told result ≡ answer_to (word_of of.now.lineage.row) (Question.Nearest a b) }
 {
     if a == b {
         return give::answered(a, 0);
     }
     if a < b {
-        return shared(bytes, m, index, l, a, b);
+        return shared(of, a, b);
     }
-    shared(bytes, m, index, l, b, a)
+    shared(of, b, a)
 }
 
 // Kind 13 of two different boundaries. Where no later boundary is lower, a is the answer; else "13 forward by that least".
-fn lower(bytes: &[u8], m: usize, index: &[i32], l: usize, a: usize, b: usize) -> Answer
-    requires { Ready bytes.now index.now m l × (a < b) × (b ≤ m) }
-    ensures { result ≡ answer_to (word bytes.now m) (Question.Lowest a b) }
+fn lower(of: &Balanced<'_>, a: usize, b: usize) -> Answer
+    requires { (a < b) × (b ≤ of.now.lineage.row.m) }
+    ensures { told result ≡ answer_to (word_of of.now.lineage.row) (Question.Lowest a b) }
 {
-    let r = range::range(bytes, m, index, l, a, b);
-    let s = r.summary;
-    let least = s.least;
-    if signed::not_negative(least) {
+    let r = range::range(&of.lineage, a, b);
+    if none_below(r.value.least) {
         return give::answered(a, r.reads);
     }
-    let by = walk::wide(least);
-    give::reached(forward::forward(bytes, m, index, l, a, by), r.reads)
+    let by = i64::from(r.value.least);
+    give::reached(forward::forward(&of.lineage, a, by), r.reads)
 }
 
 // Kind 13.
-pub(crate) fn lowest(bytes: &[u8], m: usize, index: &[i32], l: usize, a: usize, b: usize) -> Answer
-    requires { Ready bytes.now index.now m l × (a ≤ b) × (b ≤ m) }
-    ensures { result ≡ answer_to (word bytes.now m) (Question.Lowest a b) }
+pub(crate) fn lowest(of: &Balanced<'_>, a: usize, b: usize) -> Answer
+    requires { (a ≤ b) × (b ≤ of.now.lineage.row.m) }
+    ensures { told result ≡ answer_to (word_of of.now.lineage.row) (Question.Lowest a b) }
 {
     if a == b {
         return give::answered(a, 0);
     }
-    lower(bytes, m, index, l, a, b)
+    lower(of, a, b)
 }

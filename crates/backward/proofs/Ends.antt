@@ -1,42 +1,50 @@
 -- The two scans of the walk, in the block where it starts and in the leaf that it reaches.
 -- What the scan's result says of a stretch of bits, and so of the word's block.
 use mathlib.Core.Path.{◌≡◌, refl, sym, ap, ◌∙◌}
-use mathlib.Core.Bool.{Bool}
+use mathlib.Core.Bool.{Bool, cond}
 use mathlib.Core.List.{List}
 use mathlib.Core.Option.{Option, none, some}
-use Prim.Native.Nat.{ℕ, suc, ◌+◌, ◌-◌, ◌*◌, ◌/◌, ◌<◌, min}
+use Prim.Native.Nat.{ℕ, suc, ◌+◌, ◌-◌, ◌*◌, ◌/◌, ◌≤◌, ◌<◌, min}
 use native.Mathlib.Omega.{arith}
-use lib.IntN.{ℤ, ◌+ℤ◌}
+use lib.IntN.{ℤ, pos, ◌+ℤ◌, nat_abs}
+use mir.Syntax.{w32, w64}
+use mir.Val.{SFits, of_z}
+use mir.Facts.{to_z-of_z}
+use Rattle.summary.specs.declared.Summary.{Summary}
+use Rattle.summary.proofs.Machine.{rb}
+use Rattle.walk.proofs.Signed64.{wb, widen, more_fits, fits_abs}
+use Rattle.word.specs.Signed.{eq_z}
 use Rattle.word.specs.Bits.{bit, bits, word}
 use Rattle.summary.specs.Stretch.{step, depth_of}
-use Rattle.walk.specs.declared.Scan.{Scan}
-use Rattle.walk.specs.declared.Scan.TheVariants.{Met, Left}
+use Rattle.std.specs.Prelude.{Result, Ok, Err}
 use Rattle.walk.specs.declared.Walk.{Walk}
+use Rattle.walk.specs.Walk.{Reach, hit}
 use Rattle.walk.specs.Scan.{final, behind, scanned, reached}
-use Rattle.walk.specs.Backward.{leaf_back, from_start}
+use Rattle.walk.specs.Backward.{hit_back, leaf_back, from_start}
 use Rattle.backward.specs.Steps.{scan_down}
+use Rattle.walk.proofs.Machine.{zero_bits, other_bits}
 use Rattle.walk.proofs.Stretches.{block_is, behind_is, up_to_is, scanned_met, scanned_left, reached_is}
 use Rattle.backward.proofs.Scan.{one_more}
 
 -- a stretch x of the word that is n bits from bit i, and u wanted from its start
-module _ (bytes : List ℕ) (i n : ℕ) (x : List Bool) (t u : ℤ) (s : Scan) (e : x ≡ bits bytes i n) (d : t +ℤ depth_of x ≡ u) (r : s ≡ scan_down bytes i n t) where
+module _ (bytes : List ℕ) (i n : ℕ) (x : List Bool) (t u : ℤ) (s : Result ℕ ℤ) (e : x ≡ bits bytes i n) (d : t +ℤ depth_of x ≡ u) (r : s ≡ scan_down bytes i n t) where
   scan_is : s ≡ scanned (final i x u) u
   unfolding scan_down
   scan_is = r ∙ rw (← d, e)
 
-  met : (q : ℕ) → s ≡ Met q → final i x u ≡ some q
+  met : (q : ℕ) → s ≡ Ok q → final i x u ≡ some q
   met q y = scanned_met (final i x u) u q (sym scan_is ∙ y)
 
-  left : (v : ℤ) → s ≡ Left v → (final i x u ≡ none) × (v ≡ u)
+  left : (v : ℤ) → s ≡ Err v → (final i x u ≡ none) × (v ≡ u)
   left v y = scanned_left (final i x u) u v (sym scan_is ∙ y)
 
 -- ---- the leaf where the walk stands
-pub leaf_is : (bytes : List ℕ) (m l : ℕ) (w : Walk) (to : ℕ) (s : Scan) → to ≡ min (256 * (w.entry - l + 1)) m → s ≡ scan_down bytes (256 * (w.entry - l)) (to - 256 * (w.entry - l)) w.want
+pub leaf_is : (bytes : List ℕ) (m l : ℕ) (w : Walk) (to : ℕ) (s : Result ℕ ℤ) → to ≡ min (256 * (w.entry - l + 1)) m → s ≡ scan_down bytes (256 * (w.entry - l)) (to - 256 * (w.entry - l)) w.want
     → (reached s, w.reads) ≡ leaf_back l (word bytes m) w
 leaf_is bytes m l w to s e r = ap (λ (x : Option ℕ). (x, w.reads)) (ap reached (scan_is bytes _ _ _ w.want _ s (block_is bytes m (w.entry - l) to e) refl r) ∙ reached_is _ _)
 
 -- ---- the first block: the bits before bit p, where t is wanted from boundary p + 1 and `u` from boundary p
-module _ (bytes : List ℕ) (m p : ℕ) (t u : ℤ) (s : Scan) (h : p < m) (d : u ≡ t +ℤ step (bit bytes p)) (r : s ≡ scan_down bytes (256 * (p / 256)) (p - 256 * (p / 256)) u) where
+module _ (bytes : List ℕ) (m p : ℕ) (t u : ℤ) (s : Result ℕ ℤ) (h : p < m) (d : u ≡ t +ℤ step (bit bytes p)) (r : s ≡ scan_down bytes (256 * (p / 256)) (p - 256 * (p / 256)) u) where
   from_start_lem : u +ℤ depth_of (behind (word bytes m) p) ≡ from_start (word bytes m) p t
   from_start_lem =
       let b : ℕ = 256 * (p / 256) in
@@ -44,8 +52,20 @@ module _ (bytes : List ℕ) (m p : ℕ) (t u : ℤ) (s : Scan) (h : p < m) (d : 
       let c : b + (p - b) ≡ p = omega arith in
       rw (d, up_to_is bytes m p h, behind_is bytes m p h, a, one_more bytes b (p - b) (suc (p - b)) t refl, c)
 
-  pub near_met : (q : ℕ) → s ≡ Met q → final (256 * (p / 256)) (behind (word bytes m) p) (from_start (word bytes m) p t) ≡ some q
+  pub near_met : (q : ℕ) → s ≡ Ok q → final (256 * (p / 256)) (behind (word bytes m) p) (from_start (word bytes m) p t) ≡ some q
   near_met = met bytes _ _ _ u _ s (behind_is bytes m p h) from_start_lem r
 
-  pub near_left : (v : ℤ) → s ≡ Left v → (final (256 * (p / 256)) (behind (word bytes m) p) (from_start (word bytes m) p t) ≡ none) × (v ≡ from_start (word bytes m) p t)
+  pub near_left : (v : ℤ) → s ≡ Err v → (final (256 * (p / 256)) (behind (word bytes m) p) (from_start (word bytes m) p t) ≡ none) × (v ≡ from_start (word bytes m) p t)
   near_left = left bytes _ _ _ u _ s (behind_is bytes m p h) from_start_lem r
+
+-- ---- entry 1: the amount wanted, as the machine tests it
+module _ (z : ℤ) (n : ℕ) where
+  pub at_start : of_z w64 z ≡ 0 → SFits w64 z → ◌≡◌ {A = Reach} (some 0, n) (cond (eq_z z (pos 0)) (some 0) none, n)
+  at_start e f = rw (rw (to_z-of_z f) at (zero_bits z _ refl e))
+
+  pub elsewhere : (of_z w64 z ≡ 0 → ⊥) → ◌≡◌ {A = Reach} (none, n) (cond (eq_z z (pos 0)) (some 0) none, n)
+  elsewhere h = rw (other_bits z _ refl h)
+
+-- ---- an entry's test, with its total added
+pub tested : (s : Summary) (t r : ℤ) (b : Bool) → SFits w64 t → nat_abs t ≤ 2305843009213693952 → SFits w32 s.total → r ≡ rb s.total → b ≡ hit s (wb (wb t +ℤ wb r)) → b ≡ hit_back s t
+tested s t r b f near g e h = h ∙ rw (to_z-of_z f, e, to_z-of_z g, to_z-of_z (widen g), to_z-of_z (more_fits t s.total near (fits_abs g)))

@@ -6,10 +6,11 @@ use lib.IntN.{ℤ}
 use Rattle.word.specs.Bits.{word}
 use Rattle.word.specs.Settles.{Settles}
 use Rattle.index.specs.Shape.{height}
-use Rattle.walk.specs.declared.Found.{Found}
+use Rattle.std.specs.Prelude as code
+use Rattle.walk.specs.declared.Counted.{Counted}
 use Rattle.walk.specs.Walk.{said}
 use Rattle.walk.specs.Backward.{backward}
 use Rattle.walk.proofs.Settled.{said_settled}
 
-pub backward_settled : (bytes : List ℕ) (m p : ℕ) (want : ℤ) → Settles {A = Found} (λ r. said r ≡ backward (height m) (word bytes m) p want)
+pub backward_settled : (bytes : List ℕ) (m p : ℕ) (want : ℤ) → Settles {A = Counted (code.Option ℕ)} (λ r. said r ≡ backward (height m) (word bytes m) p want)
 backward_settled bytes m p want = said_settled (backward (height m) (word bytes m) p want)

@@ -1,25 +1,21 @@
 -- The steps of the backward walk, each as one function of the code takes it.
 -- Bits are those of the bytes lent.
-use Rattle.std.specs.Prelude.{Bool, cond, List, ℕ, ◌+◌, ◌*◌, ℤ, ◌+ℤ◌}
+use Rattle.std.specs.Prelude.{◌≡◌, Result, List, ℕ, zero, suc, ◌≤◌, ℤ, ◌+ℤ◌}
+use Rattle.std.proofs.Common.{refl}
+use borrow.Author.Tests.{eq-eqb, le-leb}
 use Rattle.word.specs.Bits.{bits}
 use Rattle.summary.specs.declared.Summary.{Summary}
 use Rattle.summary.specs.Stretch.{depth_of}
-use Rattle.index.specs.Shape.{entry}
 use Rattle.walk.specs.declared.Walk.{Walk}
-use Rattle.walk.specs.declared.Seen.{Seen}
-use Rattle.walk.specs.declared.Scan.{Scan}
 use Rattle.walk.specs.declared.Climb.{Climb}
-use Rattle.walk.specs.Walk.{Reach, walk}
+use Rattle.walk.specs.declared.Climb.TheVariants.{Top}
 use Rattle.walk.specs.Scan.{final, scanned}
-use Rattle.walk.specs.Backward.{hit_back, climb_back, descend_back, landed_back}
+use Rattle.walk.specs.Backward.{climb_back, descend_back, leaf_back, landed_back}
+use Rattle.walk.specs.Way.{WayLaws}
 
 -- n bits from bit i on, scanned down from their end, where t is wanted: the last boundary after i, or the amount wanted from i
-unfoldable pub scan_down : List ℕ → ℕ → ℕ → ℤ → Scan
+unfoldable pub scan_down : List ℕ → ℕ → ℕ → ℤ → Result ℕ ℤ
 scan_down bytes i n t = scanned (final i (bits bytes i n) (t +ℤ depth_of (bits bytes i n))) (t +ℤ depth_of (bits bytes i n))
-
--- "read the right child first, by the same rule.": once it is read, into it, or past it into the left one
-abbrev pub down_of : Walk → Seen → Walk
-down_of v s = cond (hit_back s.summary v.want) (walk (2 * v.entry + 1) v.want s.reads) (walk (2 * v.entry) (v.want +ℤ s.summary.total) s.reads)
 
 -- the climb from where the walk stands, and the descent, by whatever reads an entry
 abbrev pub climb_of : (ℕ → Summary) → ℕ → Walk → Climb
@@ -28,6 +24,23 @@ climb_of e s v = climb_back e s v.entry v.want v.reads
 abbrev pub descent_of : (ℕ → Summary) → ℕ → ℕ → Walk → Walk
 descent_of e l s v = descend_back e l s v.entry v.want v.reads
 
--- what comes after the first block, in the word's own index
-abbrev pub beyond : ℕ → List Bool → Walk → Reach
-beyond h w v = landed_back h w (climb_of (entry h w) h v)
+halted : (e : ℕ → Summary) (w : Walk) → Top w ≡ climb_of e 0 w
+unfolding climb_back
+halted e w = refl
+
+stayed : (e : ℕ → Summary) (l : ℕ) (w : Walk) → w ≡ descent_of e l 0 w
+unfolding descend_back
+stayed e l w = refl
+
+at_root : (e : ℕ → Summary) (s : ℕ) (w : Walk) → w.entry ≡ 1 → Top w ≡ climb_of e s w
+unfolding climb_back
+at_root e zero w d = halted e w
+at_root e (suc s) w d = rw (eq-eqb w.entry 1 d)
+
+at_leaf : (e : ℕ → Summary) (l s : ℕ) (w : Walk) → l ≤ w.entry → w ≡ descent_of e l s w
+unfolding descend_back
+at_leaf e l zero w h = stayed e l w
+at_leaf e l (suc s) w h = rw (le-leb l w.entry h)
+
+pub back_laws : WayLaws climb_of descent_of leaf_back landed_back
+back_laws = record { halted = halted; stayed = stayed; root = at_root; bottom = at_leaf; lands = λ h x u. refl }

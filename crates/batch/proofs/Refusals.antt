@@ -1,11 +1,11 @@
--- The refusals of a batch in their order: what each test shows, and what code 0 means. Assumes nothing.
+-- The refusals of a batch in their order, and what code 0 means. Assumes nothing.
 use mathlib.Core.Path.{◌≡◌, ◌∙◌}
 use mathlib.Core.Logic.{◌↔◌}
 use mathlib.Core.Bool.{true, cond}
 use mathlib.Core.List.{List}
-use Prim.Native.Nat.{ℕ, ◌%◌, ◌^◌, ◌≤◌, ◌<◌}
+use Prim.Native.Nat.{ℕ, ◌%◌, ◌^◌, ◌≤◌}
 use native.Mathlib.Omega.{arith}
-use borrow.Author.Tests.{lt-ltb, le-ltb, eq-eqb, ne_eqb, eqb-true, ltb-false, not-false}
+use borrow.Author.Tests.{le-ltb, eq-eqb, eqb-true, ltb-false, not-false}
 use lib.IntN.{ℤ}
 use lib.ListN.{length}
 use Rattle.word.specs.Bits.{word, bytes_of}
@@ -15,39 +15,14 @@ use Rattle.judge.proofs.First.{passed}
 use Rattle.index.specs.Shape.{height, numbers_of}
 use Rattle.index.specs.Lent.{too_few_numbers, is_index}
 use Rattle.index.proofs.Numbers.{tested}
+use Rattle.walk.specs.Lent.{Lent}
 use Rattle.batch.specs.Batch.{not_threes, too_little_room, differs, refusal}
-use Rattle.batch.specs.Asked.{Asked}
 
--- what each test shows, in order
-module _ (bytes : List ℕ) (m : ℕ) (idx : List ℤ) (asked room : ℕ) where
-  pub refused_1 : 2097152 < m → 1 ≡ refusal bytes m idx asked room
-  unfolding refusal
-  refused_1 a = simp (lt-ltb 2097152 m a)
-
-  module _ (a : m ≤ 2097152) where
-    pub refused_2 : length bytes < bytes_of m → 2 ≡ refusal bytes m idx asked room
-    unfolding refusal
-    refused_2 b = simp (le-ltb 2097152 m a, lt-ltb (length bytes) (bytes_of m) b)
-
-    module _ (b : bytes_of m ≤ length bytes) where
-      pub refused_3 : length idx < numbers_of m → 3 ≡ refusal bytes m idx asked room
-      unfolding refusal
-      refused_3 d = simp (le-ltb 2097152 m a, le-ltb (length bytes) (bytes_of m) b, lt-ltb (length idx) (numbers_of m) d)
-
-      module _ (d : numbers_of m ≤ length idx) where
-        pub refused_4 : (asked % 3 ≡ 0 → ⊥) → 4 ≡ refusal bytes m idx asked room
-        unfolding refusal
-        refused_4 e = simp (le-ltb 2097152 m a, le-ltb (length bytes) (bytes_of m) b, le-ltb (length idx) (numbers_of m) d, ne_eqb (asked % 3) 0 e)
-
-        module _ (e : asked % 3 ≡ 0) where
-          pub refused_5 : room < asked → 5 ≡ refusal bytes m idx asked room
-          unfolding refusal
-          refused_5 f = simp (le-ltb 2097152 m a, le-ltb (length bytes) (bytes_of m) b, le-ltb (length idx) (numbers_of m) d, eq-eqb (asked % 3) 0 e, lt-ltb room asked f)
-
-          -- past the first five, word and index decide
-          pub judging : asked ≤ room → refusal bytes m idx asked room ≡ cond (unbalanced bytes m) 6 (cond (differs bytes m idx) 7 0)
-          unfolding refusal
-          judging f = simp (le-ltb 2097152 m a, le-ltb (length bytes) (bytes_of m) b, le-ltb (length idx) (numbers_of m) d, eq-eqb (asked % 3) 0 e, le-ltb room asked f)
+-- past the first five, word and index decide
+pub judging : (bytes : List ℕ) (m : ℕ) (idx : List ℤ) (asked room : ℕ) → m ≤ 2097152 → bytes_of m ≤ length bytes → numbers_of m ≤ length idx → asked % 3 ≡ 0 → asked ≤ room
+    → refusal bytes m idx asked room ≡ cond (unbalanced bytes m) 6 (cond (differs bytes m idx) 7 0)
+unfolding refusal
+judging bytes m idx asked room a b d e f = simp (le-ltb 2097152 m a, le-ltb (length bytes) (bytes_of m) b, le-ltb (length idx) (numbers_of m) d, eq-eqb (asked % 3) 0 e, le-ltb room asked f)
 
 pub record Accepted (bytes : List ℕ) (m : ℕ) (idx : List ℤ) (asked room : ℕ) : Type 0 where
   pub size : m ≤ 2097152
@@ -82,14 +57,6 @@ accepted bytes m idx asked room = (
   λ a. judging bytes m idx asked room a.size a.bytes_lent a.index_lent a.threes a.room_lent ∙ rw (a.balanced, a.indexed),
 )
 
--- what the answers may rely on, with l leaves
-pub asked_of : (bytes : List ℕ) (m : ℕ) (idx : List ℤ) (asked room l : ℕ) → Accepted bytes m idx asked room → l ≡ 2 ^ height m → Asked bytes idx m l asked room
-asked_of bytes m idx asked room l a e =
-    record {
-      ready = record {
-        lent = record { small = a.size; enough = omega (arith, a.bytes_lent); leaves = e; indexed = tested (height m) (word bytes m) idx a.indexed };
-        balanced = a.balanced;
-      };
-      threes = a.threes;
-      lent = a.room_lent;
-    }
+-- past the refusals, what is lent is a row and its own index of l leaves
+pub lent_of : (bytes : List ℕ) (m : ℕ) (idx : List ℤ) (l : ℕ) → m ≤ 2097152 → bytes_of m ≤ length bytes → l ≡ 2 ^ height m → is_index (height m) (word bytes m) idx ≡ true → Lent bytes idx m l
+lent_of bytes m idx l a b e i = record { small = a; enough = omega (arith, b); leaves = e; indexed = tested (height m) (word bytes m) idx i }

@@ -1,4 +1,4 @@
--- What the promise of a batch settles: everything; the two ways it ends; and which index it accepts. Assumes nothing.
+-- What the promise of a batch settles: everything; how a refusal ends; and which index it accepts. Assumes nothing.
 use mathlib.Core.Path.{◌≡◌, refl, sym, ap, ◌∙◌}
 use mathlib.Core.Logic.{◌↔◌}
 use mathlib.Core.List.{List, ◌++◌}
@@ -6,8 +6,12 @@ use Prim.Native.Nat.{ℕ, zero, suc, ◌+◌, ◌*◌, ◌/◌, ◌%◌, ◌≤�
 use native.Mathlib.Omega.{arith}
 use lib.IntN.{ℤ}
 use lib.ListN.{length, take, drop, get_or, length-drop}
-use lib.Seq.{sets, sets-eq, take-append-le, drop-append-le}
+use lib.Seq.{sets-eq, take-append-le, drop-append-le}
+use Rattle.std.specs.Prelude.{Result}
+use Rattle.judge.specs.declared.refusal.Refusal.{Refusal}
 use Rattle.judge.specs.declared.Outcome.{Outcome}
+use Rattle.judge.specs.Refusal.{outcome}
+use Rattle.judge.proofs.Told.{outcome_apart}
 use Rattle.build.specs.Build.{built_index}
 use Rattle.build.specs.Build.{refusal as building}
 use Rattle.build.proofs.Refusal.{accepted as may_build}
@@ -19,10 +23,14 @@ use Rattle.batch.proofs.Answers.{answers_long, own_answer}
 
 module _ (bytes : List ℕ) (m : ℕ) (idx : List ℤ) (q held : List ℕ) where
   -- no second outcome fits
-  pub settled : (r r' : Outcome) (left left' : List ℕ) → Batched bytes m idx q held r left → Batched bytes m idx q held r' left' → (r ≡ r') × (left ≡ left')
-  settled r r' left left' p p' = (p.outcome_is ∙ sym p'.outcome_is, p.answers_are ∙ sym p'.answers_are)
+  pub outcome_settled : (r r' : Outcome) (left left' : List ℕ) → Batched bytes m idx q held r left → Batched bytes m idx q held r' left' → (r ≡ r') × (left ≡ left')
+  outcome_settled r r' left left' p p' = (p.outcome_is ∙ sym p'.outcome_is, p.answers_are ∙ sym p'.answers_are)
 
-  -- the two ways it ends
+  -- and no second result
+  pub settled : (r r' : Result ℕ Refusal) (left left' : List ℕ) → Batched bytes m idx q held (outcome r) left → Batched bytes m idx q held (outcome r') left' → (r ≡ r') × (left ≡ left')
+  settled r r' left left' p p' = let s = outcome_settled (outcome r) (outcome r') left left' p p' in (outcome_apart r r' s.0, s.1)
+
+  -- a refusal: its number with 0 beside it, and the slice as it was
   pub ends_refused : (c : ℕ) → c ≡ refusal bytes m idx (length q) (length held) → (c ≡ 0 → ⊥) → Batched bytes m idx q held (record { code = c; value = 0 }) held
   unfolding batch_outcome batch_answers
   ends_refused zero i h = absurd (h refl)
@@ -32,12 +40,7 @@ module _ (bytes : List ℕ) (m : ℕ) (idx : List ℤ) (q held : List ℕ) where
   pub refused_whole : (r : Outcome) (left : List ℕ) → Batched bytes m idx q held r left → (refusal bytes m idx (length q) (length held) ≡ 0 → ⊥)
       → (r ≡ record { code = refusal bytes m idx (length q) (length held); value = 0 }) × (left ≡ held)
   refused_whole r left p some_refusal =
-      settled r (record { code = refusal bytes m idx (length q) (length held); value = 0 }) left held p (ends_refused (refusal bytes m idx (length q) (length held)) refl some_refusal)
-
-  pub ends_answered : (c : ℕ) → c ≡ refusal bytes m idx (length q) (length held) → c ≡ 0 → (left : List ℕ) → left ≡ sets held 0 (answers_of bytes m q)
-      → Batched bytes m idx q held (record { code = 0; value = length q / 3 }) left
-  unfolding batch_outcome batch_answers
-  ends_answered c is z left e = let i = sym is ∙ z in record { outcome_is = rw i; answers_are = rw i e }
+      outcome_settled r (record { code = refusal bytes m idx (length q) (length held); value = 0 }) left held p (ends_refused (refusal bytes m idx (length q) (length held)) refl some_refusal)
 
   module _ (ok : Accepted bytes m idx (length q) (length held)) where
     none : refusal bytes m idx (length q) (length held) ≡ 0

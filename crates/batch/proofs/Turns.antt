@@ -6,8 +6,7 @@ use native.Mathlib.Omega.{arith}
 use lib.ListN.{length, drop, get_or}
 use lib.Seq.{sets, length-sets, drop-length}
 use Rattle.fill.proofs.Fill.{sets_append}
-use Rattle.question.specs.declared.Answer.{Answer}
-use Rattle.question.specs.Answer.{answer_of}
+use Rattle.question.specs.Answer.{Answer, answer_of}
 use Rattle.batch.specs.Batch.{three, answers_of}
 use Rattle.batch.proofs.Answers.{answers_step}
 

@@ -7,8 +7,7 @@ use Rattle.judge.specs.First.{first_of}
 use Rattle.judge.specs.Judge.{too_long, too_few_bytes, unbalanced, outcome_of, written}
 use Rattle.index.specs.Shape.{height}
 use Rattle.index.specs.Lent.{too_few_numbers, is_index}
-use Rattle.question.specs.declared.Answer.{Answer}
-use Rattle.question.specs.Answer.{answer_of}
+use Rattle.question.specs.Answer.{Answer, answer_of}
 
 -- 4, "question slice not a multiple of three long"
 abbrev pub not_threes : ℕ → Bool

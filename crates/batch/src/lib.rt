@@ -2,96 +2,85 @@
 // a question then costs its walks and nothing else.
 #![tactic(auto)]
 
-ghost use Rattle.std.specs.Prelude.{◌≡◌, ◌+◌, ◌≤◌, length};
+ghost use Rattle.std.specs.Prelude.{◌≡◌, ◌+◌, ◌≤◌, ◌%◌, length, IfOk};
 ghost use Rattle.std.proofs.lemmas.List.Edits.{sets};
+ghost use Rattle.judge.specs.Refusal.{code_of, outcome};
+ghost use Rattle.answer.specs.Told.{told};
 ghost use Rattle.batch.specs.Batch.{refusal, three, answers_of, Batched};
-ghost use Rattle.batch.specs.Asked.{Asked};
 
-use judge::Outcome;
-use question::Answer;
+use answer::{Answer, Balanced};
+use judge::Refusal;
+use walk::Lineage;
 
+// "Each answer is code, result, entries read."
 fn put(answers: &mut [u32], at: usize, a: Answer)
     requires { at + 3 ≤ length answers.old }
-    ensures { answers.new ≡ sets answers.old at (three a) }
+    ensures { answers.new ≡ sets answers.old at (three (told a)) }
 {
-    answers[at] = a.code;
-    answers[at + 1] = a.result;
+    let (code, result) = match a.value {
+        Ok(result) => (0, result),
+        Err(fault) => (u32::from(fault), 0),
+    };
+    answers[at] = code;
+    answers[at + 1] = result;
     answers[at + 2] = a.reads;
 }
 
 // Three numbers in, three out, each question in turn.
-fn answer_all(
-    bytes: &[u8],
-    m: usize,
-    index: &[i32],
-    l: usize,
-    questions: &[u32],
-    answers: &mut [u32],
-)
-    requires { Asked bytes.now index.now m l (length questions.now) (length answers.old) }
-    ensures { answers.new ≡ sets answers.old 0 (answers_of bytes.now m questions.now) }
+fn answer_all(of: &Balanced<'_>, questions: &[u32], answers: &mut [u32])
+    requires { (length questions.now % 3 ≡ 0) × (length questions.now ≤ length answers.old) }
+    ensures { answers.new ≡ sets answers.old 0 (answers_of of.now.lineage.row.bytes.now of.now.lineage.row.m questions.now) }
 {
-    let mut at = 0;
-    while at < questions.len() {
-        let a = answer::answer(
-            bytes,
-            m,
-            index,
-            l,
-            questions[at],
-            questions[at + 1],
-            questions[at + 2],
-        );
+    for at in (0..questions.len()).step_by(3) {
+        let a = answer::answer(of, questions[at], questions[at + 1], questions[at + 2]);
         put(answers, at, a);
-        at += 3;
     }
 }
 
-// The number of the first refusal, or 0.
-fn refused(bytes: &[u8], m: u32, index: &[i32], asked: usize, room: usize) -> u32
-    ensures { result ≡ refusal bytes.now m index.now asked room }
+// The lineage that is lent, where no refusal holds; or else the first that does.
+#[tactic(auto, unfolding(crate::specs::Batch::refusal))]
+fn accepted<'a>(
+    bytes: &'a [u8],
+    m: u32,
+    index: &'a [i32],
+    asked: usize,
+    room: usize,
+) -> Result<Balanced<'a>, Refusal>
+    ensures code { code_of result ≡ refusal bytes.now m index.now asked room }
+    ensures lent { IfOk result (λ of. (of.lineage.row.bytes.now ≡ bytes.now) × (of.lineage.row.m ≡ m)) }
 {
-    if 2097152 < m {
-        return 1;
-    }
-    if bytes.len() < judge::bytes_of(m) {
-        return 2;
-    }
+    let row = judge::lent(bytes, m)?;
     if index.len() < index::numbers_of(m) {
-        return 3;
+        return Err(Refusal::TooFewNumbers);
     }
     if asked % 3 != 0 {
-        return 4;
+        return Err(Refusal::NotThrees);
     }
     if room < asked {
-        return 5;
+        return Err(Refusal::TooLittleRoom);
     }
-    if !judge::balanced(bytes, m) {
-        return 6;
+    if !judge::balanced(&row) {
+        return Err(Refusal::Unbalanced);
     }
-    if !same::same(bytes, m, index) {
-        return 7;
+    if !same::same(&row, index) {
+        return Err(Refusal::Differs);
     }
-    0
+    let l = index::leaves(row.m);
+    let lineage = Lineage { row, index, l };
+    Ok(Balanced { lineage })
 }
 
-pub fn batch(bytes: &[u8], m: u32, index: &[i32], questions: &[u32], answers: &mut [u32]) -> Outcome
-    ensures { Batched bytes.now m index.now questions.now answers.old result answers.new }
+#[tactic(auto, using(crate::proofs::Refusals::accepted), unfolding(crate::specs::Batch::batch_outcome, crate::specs::Batch::batch_answers))]
+pub fn batch(
+    bytes: &[u8],
+    m: u32,
+    index: &[i32],
+    questions: &[u32],
+    answers: &mut [u32],
+) -> Result<usize, Refusal>
+    ensures { Batched bytes.now m index.now questions.now answers.old (outcome result) answers.new }
 {
-    let code = refused(bytes, m, index, questions.len(), answers.len());
-    if code != 0 {
-        return Outcome { code, value: 0 };
-    }
-    answer_all(
-        bytes,
-        m as usize,
-        index,
-        index::leaves(m),
-        questions,
-        answers,
-    );
-    Outcome {
-        code: 0,
-        value: questions.len() / 3,
-    }
+    let of = accepted(bytes, m, index, questions.len(), answers.len())?;
+    answer_all(&of, questions, answers);
+    Ok(questions.len() / 3)
 }

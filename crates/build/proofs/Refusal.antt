@@ -1,39 +1,23 @@
--- The refusals of building in their order, and the two ways it ends. Assumes nothing.
-use mathlib.Core.Path.{◌≡◌, refl, sym, ◌∙◌}
+-- What code 0 of building means, and how a refusal ends. Assumes nothing.
+use mathlib.Core.Path.{◌≡◌, refl, ◌∙◌}
 use mathlib.Core.Bool.{true, cond, not}
 use mathlib.Core.List.{List}
-use Prim.Native.Nat.{ℕ, zero, suc, ◌/◌, ◌≤◌, ◌<◌}
-use borrow.Author.Tests.{lt-ltb, le-ltb, ltb-false, not-false}
+use Prim.Native.Nat.{ℕ, zero, suc, ◌≤◌}
+use borrow.Author.Tests.{le-ltb, ltb-false, not-false}
 use lib.Dec.{ltb}
 use lib.IntN.{ℤ}
 use lib.ListN.{length}
-use lib.Seq.{sets}
 use Rattle.word.specs.Bits.{word, bytes_of}
 use Rattle.word.specs.Parse.{is_balanced}
 use Rattle.judge.proofs.First.{passed}
-use Rattle.index.specs.Shape.{height, numbers_of, index}
+use Rattle.index.specs.Shape.{numbers_of}
 use Rattle.entry.specs.Known.{Lent}
 use Rattle.build.specs.Build.{refusal, built_outcome, built_index, Built}
 
--- what each test shows, in order
-module _ (bytes : List ℕ) (m room : ℕ) where
-  pub refused_1 : 2097152 < m → 1 ≡ refusal bytes m room
-  unfolding refusal
-  refused_1 a = simp (lt-ltb 2097152 m a)
-
-  module _ (a : m ≤ 2097152) where
-    pub refused_2 : length bytes < bytes_of m → 2 ≡ refusal bytes m room
-    unfolding refusal
-    refused_2 b = simp (le-ltb 2097152 m a, lt-ltb (length bytes) (bytes_of m) b)
-
-    module _ (b : bytes_of m ≤ length bytes) where
-      pub refused_3 : room < numbers_of m → 3 ≡ refusal bytes m room
-      unfolding refusal
-      refused_3 d = simp (le-ltb 2097152 m a, le-ltb (length bytes) (bytes_of m) b, lt-ltb room (numbers_of m) d)
-
-      pub judging : numbers_of m ≤ room → refusal bytes m room ≡ cond (not (is_balanced (word bytes m))) 6 0
-      unfolding refusal
-      judging d = simp (le-ltb 2097152 m a, le-ltb (length bytes) (bytes_of m) b, le-ltb room (numbers_of m) d)
+-- past the first three the word decides
+pub judging : (bytes : List ℕ) (m room : ℕ) → m ≤ 2097152 → bytes_of m ≤ length bytes → numbers_of m ≤ room → refusal bytes m room ≡ cond (not (is_balanced (word bytes m))) 6 0
+unfolding refusal
+judging bytes m room a b d = simp (le-ltb 2097152 m a, le-ltb (length bytes) (bytes_of m) b, le-ltb room (numbers_of m) d)
 
 -- where none holds
 pub accepted : (bytes : List ℕ) (m : ℕ) (held : List ℤ) → refusal bytes m (length held) ≡ 0 → Lent bytes m held × (is_balanced (word bytes m) ≡ true)
@@ -48,14 +32,8 @@ accepted bytes m held e =
 pub accepts : (bytes : List ℕ) (m : ℕ) (held : List ℤ) → Lent bytes m held → is_balanced (word bytes m) ≡ true → refusal bytes m (length held) ≡ 0
 accepts bytes m held l b = judging bytes m (length held) l.size l.bytes_lent l.index_lent ∙ rw b
 
--- the two ways it ends
-module _ (bytes : List ℕ) (m : ℕ) (held : List ℤ) where
-  pub ends_refused : (c : ℕ) → c ≡ refusal bytes m (length held) → (c ≡ 0 → ⊥) → Built bytes m held (record { code = c; value = 0 }) held
-  unfolding built_outcome built_index
-  ends_refused zero i h = absurd (h refl)
-  ends_refused (suc c) i h = record { outcome_is = rw (← i); index_is = rw (← i) }
-
-  pub ends_built : (c : ℕ) → c ≡ refusal bytes m (length held) → c ≡ 0 → (left : List ℤ) → left ≡ sets held 0 (index (height m) (word bytes m))
-      → Built bytes m held (record { code = 0; value = m / 2 }) left
-  unfolding built_outcome built_index
-  ends_built c is z left e = let i = sym is ∙ z in record { outcome_is = rw i; index_is = rw i e }
+-- a refusal: its number with 0 beside it, and the slice as it was
+pub ends_refused : (bytes : List ℕ) (m : ℕ) (held : List ℤ) (c : ℕ) → c ≡ refusal bytes m (length held) → (c ≡ 0 → ⊥) → Built bytes m held (record { code = c; value = 0 }) held
+unfolding built_outcome built_index
+ends_refused bytes m held zero i h = absurd (h refl)
+ends_refused bytes m held (suc c) i h = record { outcome_is = rw (← i); index_is = rw (← i) }

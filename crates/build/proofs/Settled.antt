@@ -14,7 +14,11 @@ use Rattle.word.specs.Questions.{size}
 use Rattle.word.proofs.Bits.{length_bits}
 use Rattle.word.proofs.Answers.{size_length}
 use Rattle.word.proofs.Parse.{encode_forest_of}
+use Rattle.std.specs.Prelude.{Result}
+use Rattle.judge.specs.declared.refusal.Refusal.{Refusal}
 use Rattle.judge.specs.declared.Outcome.{Outcome}
+use Rattle.judge.specs.Refusal.{outcome}
+use Rattle.judge.proofs.Told.{outcome_apart}
 use Rattle.index.specs.Shape.{height, numbers_of, index}
 use Rattle.index.specs.Lent.{is_index}
 use Rattle.index.proofs.Height.{numbers_are}
@@ -23,14 +27,19 @@ use Rattle.build.specs.Build.{refusal, built_index, Built}
 use Rattle.build.proofs.Refusal.{accepted, ends_refused}
 
 -- no second outcome fits
-pub settled : (bytes : List ℕ) (m : ℕ) (held : List ℤ) (r r' : Outcome) (left left' : List ℤ) → Built bytes m held r left → Built bytes m held r' left' → (r ≡ r') × (left ≡ left')
-settled bytes m held r r' left left' p q = (p.outcome_is ∙ sym q.outcome_is, p.index_is ∙ sym q.index_is)
+pub outcome_settled : (bytes : List ℕ) (m : ℕ) (held : List ℤ) (r r' : Outcome) (left left' : List ℤ) → Built bytes m held r left → Built bytes m held r' left' → (r ≡ r') × (left ≡ left')
+outcome_settled bytes m held r r' left left' p q = (p.outcome_is ∙ sym q.outcome_is, p.index_is ∙ sym q.index_is)
+
+-- and no second result
+pub settled : (bytes : List ℕ) (m : ℕ) (held : List ℤ) (r r' : Result ℕ Refusal) (left left' : List ℤ) → Built bytes m held (outcome r) left → Built bytes m held (outcome r') left'
+    → (r ≡ r') × (left ≡ left')
+settled bytes m held r r' left left' p q = let s = outcome_settled bytes m held (outcome r) (outcome r') left left' p q in (outcome_apart r r' s.0, s.1)
 
 -- "Refusals 1 to 7 return 0 beside the code and write nothing."
 pub refused_whole : (bytes : List ℕ) (m : ℕ) (held : List ℤ) (r : Outcome) (left : List ℤ) → Built bytes m held r left → (refusal bytes m (length held) ≡ 0 → ⊥)
     → (r ≡ record { code = refusal bytes m (length held); value = 0 }) × (left ≡ held)
 refused_whole bytes m held r left p some_refusal =
-    settled bytes m held r (record { code = refusal bytes m (length held); value = 0 }) left held p (ends_refused bytes m held (refusal bytes m (length held)) refl some_refusal)
+    outcome_settled bytes m held r (record { code = refusal bytes m (length held); value = 0 }) left held p (ends_refused bytes m held (refusal bytes m (length held)) refl some_refusal)
 
 module _ (bytes : List ℕ) (m : ℕ) (held : List ℤ) (ok : refusal bytes m (length held) ≡ 0) where
   -- the first 8L numbers are the index, and later ones are kept

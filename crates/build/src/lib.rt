@@ -1,58 +1,49 @@
 // Building: the refusals in their order, then the index filled into the lent slice, from the last entry to entry 0.
 #![tactic(auto)]
 
-ghost use Rattle.std.specs.Prelude.{◌≡◌};
+ghost use Rattle.std.specs.Prelude.{◌≡◌, IfOk};
 ghost use Rattle.std.proofs.lemmas.List.Edits.{sets};
-ghost use Rattle.word.specs.Bits.{word};
+ghost use Rattle.word.specs.Row.{word_of};
+ghost use Rattle.judge.specs.Refusal.{code_of, outcome};
 ghost use Rattle.index.specs.Shape.{height, index as spec_index};
 ghost use Rattle.entry.specs.Known.{Lent};
 ghost use Rattle.build.specs.Build.{refusal, Built};
 
-use judge::Outcome;
+use judge::Refusal;
+use word::Row;
 
-fn fill(bytes: &[u8], m: u32, index: &mut [i32])
-    requires { Lent bytes.now m index.old }
-    ensures { index.new ≡ sets index.old 0 (spec_index (height m) (word bytes.now m)) }
+fn fill(row: &Row<'_>, index: &mut [i32])
+    requires { Lent row.now.bytes.now row.now.m index.old }
+    ensures { index.new ≡ sets index.old 0 (spec_index (height row.now.m) (word_of row.now)) }
 {
-    let l = index::leaves(m);
-    let mut k = 2 * l;
-    while 0 < k {
-        k -= 1;
-        let s = entry::own(bytes, m, l, index, k);
+    let l = index::leaves(row.m);
+    for k in (0..2 * l).rev() {
+        let s = entry::own(row, l, index, k);
         index::put(index, k, s);
     }
 }
 
-// The number of the first refusal, or 0.
-fn refused(bytes: &[u8], m: u32, room: usize) -> u32
-    ensures { result ≡ refusal bytes.now m room }
+// The row that is lent, where no refusal holds; or else the first that does.
+#[tactic(auto, unfolding(crate::specs::Build::refusal))]
+fn accepted<'a>(bytes: &'a [u8], m: u32, room: usize) -> Result<Row<'a>, Refusal>
+    ensures code { code_of result ≡ refusal bytes.now m room }
+    ensures lent { IfOk result (λ row. (row.bytes.now ≡ bytes.now) × (row.m ≡ m)) }
 {
-    if 2097152 < m {
-        return 1;
-    }
-    if bytes.len() < judge::bytes_of(m) {
-        return 2;
-    }
+    let row = judge::lent(bytes, m)?;
     if room < index::numbers_of(m) {
-        return 3;
+        return Err(Refusal::TooFewNumbers);
     }
-    if !judge::balanced(bytes, m) {
-        return 6;
+    if !judge::balanced(&row) {
+        return Err(Refusal::Unbalanced);
     }
-    0
+    Ok(row)
 }
 
 #[tactic(auto, using(crate::proofs::Refusal::accepted), unfolding(crate::specs::Build::built_outcome, crate::specs::Build::built_index))]
-pub fn build(bytes: &[u8], m: u32, index: &mut [i32]) -> Outcome
-    ensures { Built bytes.now m index.old result index.new }
+pub fn build(bytes: &[u8], m: u32, index: &mut [i32]) -> Result<usize, Refusal>
+    ensures { Built bytes.now m index.old (outcome result) index.new }
 {
-    let code = refused(bytes, m, index.len());
-    if code != 0 {
-        return Outcome { code, value: 0 };
-    }
-    fill(bytes, m, index);
-    Outcome {
-        code: 0,
-        value: (m / 2) as usize,
-    }
+    let row = accepted(bytes, m, index.len())?;
+    fill(&row, index);
+    Ok((m / 2) as usize)
 }

@@ -1,12 +1,12 @@
 -- Writing one list over a part of another: `sets l i vs` is l with vs over it from place i on.
 -- These are the laws that lib.Seq lacks; each crate that fills a lent slice cites them. Assumes nothing.
 use mathlib.Core.Path.{◌≡◌, sym, ap, ◌∙◌}
-use mathlib.Core.List.{List, [], ◌∷◌, ◌++◌}
+use mathlib.Core.List.{List, [], ◌∷◌, ◌++◌, append_assoc}
 use Prim.Native.Nat.{ℕ, suc, ◌+◌, ◌<◌, ◌≤◌}
-use native.Mathlib.Numerals.{add-one}
 use native.Mathlib.Omega.{arith}
 use lib.ListN.{length, set, get_or, take, drop}
-use lib.Seq.{sets, sets-eq, take_at, drop-cons, drop-length}
+use lib.Seq.{sets, sets-eq, take_at, drop-cons, drop-drop}
+use borrow.Rule.Slice.PartMut.{put_mid}
 
 module _ {A : Type 0} where
   -- in two goes
@@ -14,16 +14,9 @@ module _ {A : Type 0} where
   sets_append l i [] ys = ap (λ n. sets l n ys) (let e : i ≡ i + 0 = omega arith in e)
   sets_append l i (x ∷ xs) ys = sets_append (set l i x) (suc i) xs ys ∙ ap (λ n. sets (sets (set l i x) (suc i) xs) n ys) (let e : suc i + length xs ≡ i + suc (length xs) = omega arith in e)
 
-  -- one element more of a list that is copied from its front
-  pub sets_next : (l src : List A) (to i : ℕ) (d : A) → i < length src → sets (set l (to + i) (get_or src i d)) (to + (i + 1)) (drop (i + 1) src) ≡ sets l (to + i) (drop i src)
-  sets_next l src to i d h =
-      ap (λ n. sets (set l (to + i) (get_or src i d)) n (drop (i + 1) src)) (let e : to + (i + 1) ≡ suc (to + i) = omega arith in e)
-      ∙ ap (λ n. sets (set l (to + i) (get_or src i d)) (suc (to + i)) (drop n src)) (add-one i)
-      ∙ sym (ap (sets l (to + i)) (drop-cons src i d h))
-
-  -- and at its end there is nothing more to write
-  pub sets_none : (l src : List A) (to i : ℕ) → i ≡ length src → sets l to (drop i src) ≡ l
-  sets_none l src to i e = ap (λ n. sets l to (drop n src)) e ∙ ap (sets l to) (drop-length src)
+  -- a list written over the k elements from place i on
+  pub put_sets : (l vs : List A) (i k : ℕ) → k ≡ length vs → i + k ≤ length l → put_mid i k l vs ≡ sets l i vs
+  put_sets l vs i k e h = rw (e, sets-eq vs l i (omega arith), append_assoc, drop-drop)
 
   -- what was written from the front stands at the front
   pub sets_front : (l vs : List A) (n : ℕ) → n ≡ length vs → length vs ≤ length l → take n (sets l 0 vs) ≡ vs

@@ -6,13 +6,10 @@ ghost use Rattle.std.specs.Prelude.{◌≡◌, ◌+◌, ◌≤◌, length};
 ghost use Rattle.std.proofs.lemmas.List.Edits.{sets};
 
 // All of `src`, over `dst` from place `to` on.
+#[tactic(auto, using(crate::proofs::Fill::put_sets))]
 pub fn copy(src: &[u8], dst: &mut [u8], to: usize)
     requires { to + length src.now ≤ length dst.old }
     ensures { dst.new ≡ sets dst.old to src.now }
 {
-    let mut i = 0;
-    while i < src.len() {
-        dst[to + i] = src[i];
-        i += 1;
-    }
+    dst[to..to + src.len()].copy_from_slice(src);
 }

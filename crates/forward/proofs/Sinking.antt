@@ -1,36 +1,39 @@
--- The way down, one entry at a time: a leaf, and an entry above one.
--- The left child is entered, or passed with its total taken off.
-use mathlib.Core.Path.{◌≡◌, refl}
-use Prim.Native.Nat.{ℕ, zero, suc, ◌+◌, ◌*◌, ◌≤◌, ◌<◌}
-use borrow.Author.Tests.{le-leb, lt-leb}
+-- One step of the way down: the left child is entered, or passed with its total taken off.
+use mathlib.Core.Path.{◌≡◌}
+use mathlib.Core.Bool.{true, false}
+use Prim.Native.Nat.{ℕ, suc, ◌+◌, ◌*◌, ◌<◌}
+use borrow.Author.Tests.{lt-leb}
 use lib.IntN.{ℤ, ◌-ℤ◌}
-use lib.Signed.{mag}
-use Rattle.word.proofs.Signed.{zarith, by_test}
+use mir.Syntax.{w32}
+use mir.Val.{SFits}
+use Rattle.word.proofs.Signed.{zarith}
 use Rattle.summary.specs.declared.Summary.{Summary}
+use Rattle.walk.specs.declared.Counted.{Counted}
 use Rattle.walk.specs.declared.Walk.{Walk}
 use Rattle.walk.specs.Walk.{walk, seen, hit}
 use Rattle.walk.specs.Forward.{descend}
-use Rattle.walk.specs.Room.{Sunk}
+use Rattle.walk.specs.Way.{Down}
 use Rattle.walk.proofs.Amounts.{total_off}
-use Rattle.walk.proofs.Room.{Sinking, Down, sunk, one_down}
-use Rattle.forward.specs.Steps.{down_of, descent_of}
+use Rattle.forward.specs.Steps.{descent_of}
 
-module _ (e : ℕ → Summary) (l k : ℕ) (t : ℤ) (n : ℕ) where
-  at_leaf : (s : ℕ) → l ≤ k → walk k t n ≡ descend e l s k t n
+module _ (e : ℕ → Summary) (l k : ℕ) (t : ℤ) (n s : ℕ) (b : k < l) where
+  below_hit : hit (e (2 * k)) t ≡ true → descend e l s (2 * k) t (n + 1) ≡ descend e l (suc s) k t n
   unfolding descend
-  at_leaf zero h = refl
-  at_leaf (suc s) h = rw (le-leb l k h)
+  below_hit y = rw (lt-leb l k b, y)
 
-  below_leaf : (s : ℕ) (u : Walk) → k < l → u ≡ down_of (walk k t n) (seen (e (2 * k)) (n + 1))
-      → descend e l s u.entry u.want u.reads ≡ descend e l (suc s) k t n
+  below_miss : hit (e (2 * k)) t ≡ false → descend e l s (2 * k + 1) (t -ℤ (e (2 * k)).total) (n + 1) ≡ descend e l (suc s) k t n
   unfolding descend
-  below_leaf s u h q = by_test (hit (e (2 * k)) t) (λ y. rw (q, lt-leb l k h, y)) (λ y. rw (q, lt-leb l k h, y))
+  below_miss y = rw (lt-leb l k b, y)
 
-pub sunk_leaf : (e : ℕ → Summary) (l : ℕ) (v w : Walk) → Sinking (descent_of e l) l v w → l ≤ w.entry → Sunk (descent_of e l) l v w
-sunk_leaf e l v w c h = sunk (descent_of e l) l v w c h (λ s. at_leaf e l w.entry w.want w.reads s h)
+-- x is what was read of the left child of entry w
+module _ (e : ℕ → Summary) (l : ℕ) (w : Walk) (b : w.entry < l) (x : Counted Summary) (q : x ≡ seen (e (2 * w.entry)) (w.reads + 1)) where
+  pub left : hit x.value w.want ≡ true → (u : Walk) → u ≡ walk (2 * w.entry) w.want x.reads → Down (descent_of e l) w u
+  left h u r = rw (r, q) (record { child = omega zarith; near = omega zarith; reads = omega zarith; on = λ s. below_hit e l w.entry w.want w.reads s b (rw q at h) })
 
-pub step_down : (e : ℕ → Summary) (l : ℕ) (w : Walk) → w.entry < l → (u : Walk) → u ≡ down_of w (seen (e (2 * w.entry)) (w.reads + 1)) → mag (e (2 * w.entry)).total < 2147483648
-    → Down (descent_of e l) w u
-step_down e l w b u q o = one_down (descent_of e l) w u (hit (e (2 * w.entry)) w.want) (2 * w.entry) (2 * w.entry + 1) (w.want -ℤ (e (2 * w.entry)).total) q (omega zarith) (omega zarith)
-    (total_off w.want (e (2 * w.entry)).total o)
-    (λ s. below_leaf e l w.entry w.want w.reads s u b q)
+  pub right : hit x.value w.want ≡ false → SFits w32 x.value.total → (u : Walk) → u ≡ walk (2 * w.entry + 1) (w.want -ℤ x.value.total) x.reads → Down (descent_of e l) w u
+  right h o u r = rw (r, q) (record {
+    child = omega zarith;
+    near = total_off w.want (e (2 * w.entry)).total (rw q at o.sfits);
+    reads = omega zarith;
+    on = λ s. below_miss e l w.entry w.want w.reads s b (rw q at h);
+  })

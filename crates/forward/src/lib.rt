@@ -3,126 +3,104 @@
 #![tactic(auto)]
 
 ghost use Rattle.std.specs.Prelude.{◌≡◌, ◌-◌, ◌*◌, ◌<◌, ◌≤◌, length, nat_abs};
-ghost use Rattle.word.specs.Bits.{word};
+ghost use Rattle.word.specs.Row.{word_of};
 ghost use Rattle.index.specs.Shape.{height};
-ghost use Rattle.index.specs.Lent.{entry_at};
 ghost use Rattle.walk.specs.Walk.{said};
-ghost use Rattle.walk.specs.Forward.{leaf_scan, forward};
-ghost use Rattle.walk.specs.Lent.{Lent};
-ghost use Rattle.walk.specs.Room.{Ready, Footing, Climbed, Hold, Sunk};
-ghost use Rattle.forward.specs.Steps.{scan_of, down_of, climb_of, descent_of, beyond};
+ghost use Rattle.walk.specs.Forward.{leaf_scan, landed, forward};
+ghost use Rattle.forward.specs.Steps.{scan_of, climb_of, descent_of, ahead_laws};
 
-use walk::{Climb, Found, Scan, Seen, Walk};
+use std::ops::ControlFlow;
+use walk::{Counted, Lineage, Walk, Way};
 
-// The first boundary after `from`, up to `to`, whose depth from `from` is what is wanted.
-fn scan(bytes: &[u8], from: usize, to: usize, want: i64) -> Scan
+// The first boundary after `from`, up to `to`, whose depth from `from` is what is wanted; or the amount still wanted.
+fn scan(bytes: &[u8], from: usize, to: usize, want: i64) -> Result<usize, i64>
     requires { (to ≤ 8 * length bytes.now) × (to ≤ 4194304) × (nat_abs want ≤ 1152921504606846976) }
     ensures { result ≡ scan_of bytes.now from (to - from) want }
 {
     let mut t = want;
-    let mut i = from;
-    while i < to {
-        let b = word::opens(bytes, i);
-        t = walk::minus(t, walk::step(b));
-        i += 1;
-        if walk::zero(t) {
-            return Scan::Met(i);
+    for i in from..to {
+        t -= i64::from(walk::step(word::opens(bytes, i)));
+        if t == 0 {
+            return Ok(i + 1);
         }
     }
-    Scan::Left(t)
+    Err(t)
 }
 
-// "if its count isn't 0 and least ≤ t ≤ greatest, go down into it, else take its total off t; then halve k."
-fn climb(index: &[i32], start: Walk) -> Climb
-    requires { Footing index.now start }
-    ensures { Climbed (climb_of (entry_at index.now)) start result }
-{
-    let mut w = start;
-    let found = loop {
-        let k = w.entry;
-        if k == 1 {
-            break Climb::Top(w);
+// The way forward.
+pub struct Ahead;
+
+impl Way for Ahead {
+    ghost climb_of = { climb_of };
+
+    ghost descent_of = { descent_of };
+
+    ghost leaf_of = { leaf_scan };
+
+    ghost landed_of = { landed };
+
+    ghost laws = { ahead_laws };
+
+    // "at an even entry k read k+1; if its count isn't 0 and least ≤ t ≤ greatest, go down into it, else take its total off t;
+    // then halve k."
+    fn up(lineage: &Lineage<'_>, w: Walk) -> ControlFlow<Walk, Walk> {
+        let s = walk::after(lineage.index, w.entry, w.reads);
+        if walk::holds(s.value, w.want) {
+            ControlFlow::Break(w.enter(w.entry + 1, s))
+        } else {
+            ControlFlow::Continue(w.less(w.entry / 2, s))
         }
-        let s = walk::after(index, k, w.reads);
-        if walk::holds(s.summary, w.want) {
-            break Climb::Enter(w.enter(k + 1, s));
+    }
+
+    // "Going down, read the left child; enter it on the same test, else take its total off t and enter the right one unread."
+    fn down(lineage: &Lineage<'_>, w: Walk) -> Walk {
+        let left = walk::read(lineage.index, 2 * w.entry, w.reads);
+        if walk::holds(left.value, w.want) {
+            w.enter(2 * w.entry, left)
+        } else {
+            w.less(2 * w.entry + 1, left)
         }
-        w = w.less(k / 2, s);
-    };
-    found
-}
-
-// One step down: into the left child, or past it into the right one, unread.
-fn down(w: Walk, left: Seen) -> Walk
-    requires { (nat_abs w.want ≤ 2305843009213693952) × (w.entry ≤ 1073741824) }
-    ensures { result ≡ down_of w left }
-{
-    let k = w.entry;
-    if walk::holds(left.summary, w.want) {
-        w.enter(2 * k, left)
-    } else {
-        w.less(2 * k + 1, left)
     }
-}
 
-// "Going down, read the left child; enter it on the same test", as far as a leaf.
-fn descend(index: &[i32], l: usize, start: Walk) -> Walk
-    requires { Hold index.now l start }
-    ensures { Sunk (descent_of (entry_at index.now) l) l start result }
-{
-    let mut w = start;
-    while w.entry < l {
-        let k = w.entry;
-        let left = walk::read(index, 2 * k, w.reads);
-        w = down(w, left);
+    // "Scan the leaf reached."
+    fn leaf(lineage: &Lineage<'_>, w: Walk) -> Counted<Option<usize>> {
+        let row = lineage.row;
+        let b = w.entry - lineage.l;
+        let s = scan(row.bytes, 256 * b, walk::end_of(row.m, b), w.want);
+        Counted {
+            value: s.ok(),
+            reads: w.reads,
+        }
     }
-    w
-}
 
-// "Scan the leaf reached."
-fn leaf(bytes: &[u8], m: usize, l: usize, w: Walk) -> Found
-    requires { (l ≤ w.entry) × (w.entry ≤ 16384) × (m ≤ 2097152) × (m ≤ 8 * length bytes.now) × (nat_abs w.want ≤ 1152921504606846976) }
-    ensures { said result ≡ leaf_scan l (word bytes.now m) w }
-{
-    let k = w.entry;
-    let b = k - l;
-    let to = walk::end_of(m, b);
-    let s = scan(bytes, 256 * b, to, w.want);
-    walk::met(s, w.reads)
-}
-
-// Past the first block: the climb, the way down, and the scan of the leaf reached. "At entry 1 there is none."
-fn onward(bytes: &[u8], m: usize, index: &[i32], l: usize, start: Walk) -> Found
-    requires { Lent bytes.now index.now m l × Ready l start }
-    ensures { said result ≡ beyond (height m) (word bytes.now m) start }
-{
-    let found = climb(index, start);
-    match found {
-        Climb::Top(w) => Found::Nothing(w.reads),
-        Climb::Enter(v) => {
-            let w = descend(index, l, v);
-            leaf(bytes, m, l, w)
+    // "At entry 1 there is none."
+    fn top(w: Walk) -> Counted<Option<usize>> {
+        Counted {
+            value: None,
+            reads: w.reads,
         }
     }
 }
 
 // "Scan to the end of block p/256. Failing that, let t be the amount still wanted from there. Climb from that leaf"
-pub fn forward(bytes: &[u8], m: usize, index: &[i32], l: usize, p: usize, want: i64) -> Found
-    requires { Lent bytes.now index.now m l × (p < m) × (nat_abs want ≤ 8589934592) }
-    ensures { said result ≡ forward (height m) (word bytes.now m) p want }
+pub fn forward(lineage: &Lineage<'_>, p: usize, want: i64) -> Counted<Option<usize>>
+    requires { (p < lineage.now.row.m) × (nat_abs want ≤ 8589934592) }
+    ensures { said result ≡ forward (height lineage.now.row.m) (word_of lineage.now.row) p want }
 {
+    let row = lineage.row;
     let b = p / 256;
-    let to = walk::end_of(m, b);
-    let s = scan(bytes, p, to, want);
-    match s {
-        Scan::Met(q) => Found::At(q, 0),
-        Scan::Left(t) => {
+    match scan(row.bytes, p, walk::end_of(row.m, b), want) {
+        Ok(q) => Counted {
+            value: Some(q),
+            reads: 0,
+        },
+        Err(t) => {
             let w = Walk {
-                entry: l + b,
+                entry: lineage.l + b,
                 want: t,
                 reads: 0,
             };
-            onward(bytes, m, index, l, w)
+            walk::onward::<Ahead>(lineage, w)
         }
     }
 }

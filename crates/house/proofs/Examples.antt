@@ -3,6 +3,7 @@
 use mathlib.Core.Path.{◌≡◌, refl}
 use mathlib.Core.List.{List, [], ◌∷◌, ◌++◌}
 use Prim.Native.Nat.{ℕ}
+use Rattle.std.specs.Prelude.{Ok, Err}
 use Rattle.house.specs.File.{read_of}
 
 -- `01 0004 0000000C`
@@ -21,43 +22,43 @@ first = 3 ∷ 0 ∷ 12 ∷ 0 ∷ 0 ∷ 0 ∷ 12 ∷ 0 ∷ 0 ∷ 0 ∷ 4 ∷ 0 �
 abbrev second : List ℕ
 second = 3 ∷ 0 ∷ 12 ∷ 0 ∷ 0 ∷ 0 ∷ 6 ∷ 0 ∷ 0 ∷ 0 ∷ 10 ∷ 0 ∷ 0 ∷ 0 ∷ 0 ∷ []
 
-shown : read_of (twelve ++ (bytes ++ (first ++ second))) ≡ record { house = record { code = 0; m = 12; bytes = 2; asked = 2 }; bytes = 0x5B ∷ 0x04 ∷ []; numbers = 12 ∷ 4 ∷ 6 ∷ 6 ∷ 10 ∷ 0 ∷ [] }
+shown : read_of (twelve ++ (bytes ++ (first ++ second))) ≡ record { house = Ok (record { m = 12; bytes = 2; asked = 2 }); bytes = 0x5B ∷ 0x04 ∷ []; numbers = 12 ∷ 4 ∷ 6 ∷ 6 ∷ 10 ∷ 0 ∷ [] }
 unfolding read_of
 shown = refl
 
 -- "31 cut short, also for empty input"; a lone unknown byte is cut short first
-none : (read_of []).house.code ≡ 31
+none : (read_of []).house ≡ Err 31
 unfolding read_of
 none = refl
 
-lone : (read_of (9 ∷ [])).house.code ≡ 31
+lone : (read_of (9 ∷ [])).house ≡ Err 31
 unfolding read_of
 lone = refl
 
-unknown : (read_of (9 ∷ 0 ∷ 0 ∷ [])).house.code ≡ 32
+unknown : (read_of (9 ∷ 0 ∷ 0 ∷ [])).house ≡ Err 32
 unfolding read_of
 unknown = refl
 
 -- tag 1 "comes once, first": out of place before its length is looked at
-again : (read_of (twelve ++ (1 ∷ 0 ∷ 0 ∷ []))).house.code ≡ 33
+again : (read_of (twelve ++ (1 ∷ 0 ∷ 0 ∷ []))).house ≡ Err 33
 unfolding read_of
 again = refl
 
 -- "Tag 2 never follows tag 3"
-late : (read_of (twelve ++ (first ++ bytes))).house.code ≡ 33
+late : (read_of (twelve ++ (first ++ bytes))).house ≡ Err 33
 unfolding read_of
 late = refl
 
 -- "Tag 2 (length 1 or more)"
-blank : (read_of (twelve ++ (2 ∷ 0 ∷ 0 ∷ []))).house.code ≡ 34
+blank : (read_of (twelve ++ (2 ∷ 0 ∷ 0 ∷ []))).house ≡ Err 34
 unfolding read_of
 blank = refl
 
 -- "more than ceil(m/8) word bytes", and fewer
-much : (read_of (twelve ++ (bytes ++ bytes))).house.code ≡ 35
+much : (read_of (twelve ++ (bytes ++ bytes))).house ≡ Err 35
 unfolding read_of
 much = refl
 
-few : (read_of (twelve ++ first)).house.code ≡ 2
+few : (read_of (twelve ++ first)).house ≡ Err 2
 unfolding read_of
 few = refl

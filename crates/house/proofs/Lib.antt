@@ -1,3 +1,4 @@
+pub mod Faults
 pub mod Fields
 pub mod Steps
 pub mod Whole

@@ -8,18 +8,23 @@ use borrow.Author.Tests.{lt-ltb, le-ltb}
 use lib.ListN.{length}
 use lib.Seq.{sets, length-sets}
 use Rattle.fill.proofs.Fill.{sets_append}
+use Rattle.std.specs.Prelude.{Result, Ok, Err}
 use Rattle.house.specs.declared.State.{State}
 use Rattle.house.specs.declared.House.{House}
 use Rattle.house.specs.declared.Field.{Field}
-use Rattle.house.specs.declared.Field.TheVariants.{Bad, Size, Word, Question}
+use Rattle.house.specs.declared.Field.TheVariants.{Size, Word, Question}
+use Rattle.house.specs.declared.fault.Fault.{Fault}
+use Rattle.house.specs.declared.fault.Fault.TheVariants.{TooMuch}
+use Rattle.house.specs.Faults.{told}
 use Rattle.house.specs.Fields.{value_at, field_at}
-use Rattle.house.specs.File.{Gathered, Read, refused, ended, only, start, sized, worded, questioned, three_of, onward, from, read_of}
-use Rattle.house.proofs.Fields.{sound_as}
+use Rattle.house.specs.File.{Gathered, Read, ended, only, start, sized, worded, questioned, three_of, onward, from, read_of}
+use Rattle.house.proofs.Faults.{told_one}
+use Rattle.house.proofs.Fields.{fits}
 use Rattle.house.proofs.Steps.{Steady, steady_start, steady_sized, steady_worded, steady_questioned, value_length}
 
 -- what was gathered, laid over two lists: over each from a place on
 record Laid : Type 0 where
-  pub house : House
+  pub house : Result House ℕ
   pub word : List ℕ
   pub numbers : List ℕ
 
@@ -37,13 +42,13 @@ pub record Reading (file word₀ numbers₀ word numbers : List ℕ) (s : State)
   pub goes : lay word s.bytes numbers (3 * s.asked) (from file turns s) ≡ lay word₀ 0 numbers₀ 0 (read_of file)
 
 -- a lay that nothing is left of is what `read` promises
-read_of_lem : (file word numbers word' numbers' : List ℕ) (h : House) (i j : ℕ) → lay word' i numbers' j (only h) ≡ lay word 0 numbers 0 (read_of file) → Read file word numbers h word' numbers'
+read_of_lem : (file word numbers word' numbers' : List ℕ) (h : Result House Fault) (i j : ℕ) → lay word' i numbers' j (only (told h)) ≡ lay word 0 numbers 0 (read_of file) → Read file word numbers h word' numbers'
 read_of_lem file word numbers word' numbers' h i j e = record { house_is = ap (λ l. l.house) e; word_is = ap (λ l. l.word) e; numbers_are = ap (λ l. l.numbers) e }
 
 module _ (file word₀ numbers₀ : List ℕ) where
-  pub too_long : 49152 < length file → Read file word₀ numbers₀ (refused 35) word₀ numbers₀
+  pub too_long : 49152 < length file → Read file word₀ numbers₀ (Err TooMuch) word₀ numbers₀
   unfolding read_of
-  too_long h = read_of_lem file word₀ numbers₀ word₀ numbers₀ (refused 35) 0 0 (let e : only (refused 35) ≡ read_of file = simp (lt-ltb 49152 (length file) h) in ap (lay word₀ 0 numbers₀ 0) e)
+  too_long h = read_of_lem file word₀ numbers₀ word₀ numbers₀ (Err TooMuch) 0 0 (let e : only (Err 35) ≡ read_of file = simp (lt-ltb 49152 (length file) h) in ap (lay word₀ 0 numbers₀ 0) e)
 
   pub begins : length file ≤ 49152 → Reading file word₀ numbers₀ word₀ numbers₀ start
   unfolding read_of
@@ -61,14 +66,16 @@ module _ (file word₀ numbers₀ : List ℕ) where
       }
 
   module _ (word numbers : List ℕ) (s : State) (r : Reading file word₀ numbers₀ word numbers s) where
-    pub ends : length file ≤ s.at → Read file word₀ numbers₀ (ended s) word numbers
-    ends h = read_of_lem file word₀ numbers₀ word numbers (ended s) s.bytes (3 * s.asked) (sym (ap (lay word s.bytes numbers (3 * s.asked)) (none r.turns)) ∙ r.goes)
+    pub ends : (h : Result House Fault) → told h ≡ ended s → length file ≤ s.at → Read file word₀ numbers₀ h word numbers
+    ends h e k =
+        read_of_lem file word₀ numbers₀ word numbers h s.bytes (3 * s.asked)
+        (ap (λ r. lay word s.bytes numbers (3 * s.asked) (only r)) e ∙ sym (ap (lay word s.bytes numbers (3 * s.asked)) (none r.turns)) ∙ r.goes)
       where
         none : (n : ℕ) → from file n s ≡ only (ended s)
         none zero = refl
-        none (suc n) = simp (le-ltb s.at (length file) h)
+        none (suc n) = simp (le-ltb s.at (length file) k)
 
-    module _ (f : Field) (h : s.at < length file) (e : field_at file s ≡ f) where
+    module _ (f : Result Field ℕ) (h : s.at < length file) (e : field_at file s ≡ f) where
       -- one turn fewer
       pub record Turned : Type 0 where
         pub turns : ℕ
@@ -85,13 +92,13 @@ module _ (file word₀ numbers₀ : List ℕ) where
               record { turns = n; fewer = i; goes = sym (ap (lay word s.bytes numbers (3 * s.asked)) (ap (λ n. from file n s) i ∙ q)) ∙ r.goes }
 
     module _ (h : s.at < length file) where
-      pub stops : (code : ℕ) → field_at file s ≡ Bad code → Read file word₀ numbers₀ (refused code) word numbers
-      stops code e = read_of_lem file word₀ numbers₀ word numbers (refused code) s.bytes (3 * s.asked) (turned (Bad code) h e).goes
+      pub stops : (r : Result House Fault) (n : ℕ) → field_at file s ≡ Err n → told r ≡ Err n → Read file word₀ numbers₀ r word numbers
+      stops r n e i = read_of_lem file word₀ numbers₀ word numbers r s.bytes (3 * s.asked) (rw i (turned (Err n) h e).goes)
 
-      pub past_size : (m : ℕ) → field_at file s ≡ Size m → Reading file word₀ numbers₀ word numbers (sized s m)
+      pub past_size : (m : ℕ) → field_at file s ≡ Ok (Size m) → Reading file word₀ numbers₀ word numbers (sized s m)
       past_size m e =
-          let t = turned (Size m) h e in
-          let b = sound_as file s (Size m) e in
+          let t = turned (Ok (Size m)) h e in
+          let b = fits file s (Size m) e in
           record {
             turns = t.turns;
             enough = omega (arith, t.fewer, r.enough);
@@ -103,10 +110,10 @@ module _ (file word₀ numbers₀ : List ℕ) where
             goes = t.goes;
           }
 
-      pub past_word : (len : ℕ) → field_at file s ≡ Word len → Reading file word₀ numbers₀ (sets word s.bytes (value_at file s.at len)) numbers (worded s len)
+      pub past_word : (len : ℕ) → field_at file s ≡ Ok (Word len) → Reading file word₀ numbers₀ (sets word s.bytes (value_at file s.at len)) numbers (worded s len)
       past_word len e =
-          let t = turned (Word len) h e in
-          let b = sound_as file s (Word len) e in
+          let t = turned (Ok (Word len)) h e in
+          let b = fits file s (Word len) e in
           let v = value_at file s.at len in
           let l : length v ≡ len = value_length file s.at len b.0 in
           let g = from file t.turns (worded s len) in
@@ -124,10 +131,10 @@ module _ (file word₀ numbers₀ : List ℕ) where
                 ∙ t.goes;
           }
 
-      pub past_question : field_at file s ≡ Question → Reading file word₀ numbers₀ word (sets numbers (3 * s.asked) (three_of (value_at file s.at 12))) (questioned s)
+      pub past_question : field_at file s ≡ Ok Question → Reading file word₀ numbers₀ word (sets numbers (3 * s.asked) (three_of (value_at file s.at 12))) (questioned s)
       past_question e =
-          let t = turned Question h e in
-          let b = sound_as file s Question e in
+          let t = turned (Ok Question) h e in
+          let b = fits file s Question e in
           let v = three_of (value_at file s.at 12) in
           let g = from file t.turns (questioned s) in
           record {
@@ -144,10 +151,10 @@ module _ (file word₀ numbers₀ : List ℕ) where
                 ∙ t.goes;
           }
 
-module _ (file word numbers : List ℕ) (r : House) (word' numbers' : List ℕ) (p : Read file word numbers r word' numbers') where
+module _ (file word numbers : List ℕ) (r : Result House Fault) (word' numbers' : List ℕ) (p : Read file word numbers r word' numbers') where
   -- no second outcome fits
-  pub settled : (r₂ : House) (word₂ numbers₂ : List ℕ) → Read file word numbers r₂ word₂ numbers₂ → (r ≡ r₂) × ((word' ≡ word₂) × (numbers' ≡ numbers₂))
-  settled r₂ word₂ numbers₂ q = (p.house_is ∙ sym q.house_is, (p.word_is ∙ sym q.word_is, p.numbers_are ∙ sym q.numbers_are))
+  pub settled : (r₂ : Result House Fault) (word₂ numbers₂ : List ℕ) → Read file word numbers r₂ word₂ numbers₂ → (r ≡ r₂) × ((word' ≡ word₂) × (numbers' ≡ numbers₂))
+  settled r₂ word₂ numbers₂ q = (told_one r r₂ (p.house_is ∙ sym q.house_is), (p.word_is ∙ sym q.word_is, p.numbers_are ∙ sym q.numbers_are))
 
   -- both lent slices are as long as they were
   pub read_long : (length word' ≡ length word) × (length numbers' ≡ length numbers)

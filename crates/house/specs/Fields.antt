@@ -1,10 +1,12 @@
 -- One field of a house file: "one-byte tag, two-byte length, then that many bytes", and its faults in document 01's order.
 -- A field is looked at where it stands in the file, after what the fields before it have told (`State`). Assumes nothing.
-use Rattle.std.specs.Prelude.{Bool, true, cond, not, List, ℕ, ◌+◌, ◌*◌, ltb, eqb, length, take, drop, get_or}
+use Rattle.std.specs.Prelude.{Bool, true, false, cond, not, List, ℕ, ◌+◌, ◌*◌, ltb, eqb, length, take, drop, get_or, Result, Ok, Err}
 use Rattle.word.specs.Bits.{bytes_of}
 use Rattle.house.specs.declared.State.{State}
 use Rattle.house.specs.declared.Field.{Field}
-use Rattle.house.specs.declared.Field.TheVariants.{Bad, Size, Word, Question}
+use Rattle.house.specs.declared.Field.TheVariants.{Size, Word, Question}
+use Rattle.house.specs.declared.Stage.{Stage}
+use Rattle.house.specs.declared.Stage.TheVariants.{First, Bytes, Questions}
 
 -- "all numbers most significant first"
 abbrev pub two_at : List ℕ → ℕ → ℕ
@@ -35,33 +37,43 @@ cut_short file at = ltb (length file) (at + 3 + length_at file at)
 abbrev pub unknown_tag : ℕ → Bool
 unknown_tag tag = cond (eqb tag 0) true (ltb 3 tag)
 
--- "33 out of place": tag 1 "comes once, first", so nothing comes before it; "tag 2 never follows tag 3".
--- The stage is 0 before the first field, 1 where the word may go on, and 2 once a question has come
-abbrev pub out_of_place : ℕ → ℕ → Bool
-out_of_place tag stage = by_tag tag (not (eqb stage 0)) (not (eqb stage 1)) (eqb stage 0)
+-- whether the first field is still to come, and whether the word may go on
+abbrev pub is_first : Stage → Bool
+is_first First = true
+is_first Bytes = false
+is_first Questions = false
+
+abbrev pub is_bytes : Stage → Bool
+is_bytes First = false
+is_bytes Bytes = true
+is_bytes Questions = false
+
+-- "33 out of place": tag 1 "comes once, first", so nothing comes before it; "tag 2 never follows tag 3"
+abbrev pub out_of_place : ℕ → Stage → Bool
+out_of_place tag stage = by_tag tag (not (is_first stage)) (not (is_bytes stage)) (is_first stage)
 
 -- "34 wrong length": "Tag 1 (length 4)", "Tag 2 (length 1 or more)", "Tag 3 (length 12)"
 abbrev pub wrong_length : ℕ → ℕ → Bool
 wrong_length tag len = by_tag tag (not (eqb len 4)) (eqb len 0) (not (eqb len 12))
 
 -- "35 m over 65,536, more than ceil(m/8) word bytes, or a 1,025th question"; a field without fault is what its tag says
-abbrev pub size_field : ℕ → Field
-size_field m = cond (ltb 65536 m) (Bad 35) (Size m)
+abbrev pub size_field : ℕ → Result Field ℕ
+size_field m = cond (ltb 65536 m) (Err 35) (Ok (Size m))
 
-abbrev pub word_field : State → ℕ → Field
-word_field s len = cond (ltb (bytes_of s.m) (s.bytes + len)) (Bad 35) (Word len)
+abbrev pub word_field : State → ℕ → Result Field ℕ
+word_field s len = cond (ltb (bytes_of s.m) (s.bytes + len)) (Err 35) (Ok (Word len))
 
-abbrev pub question_field : State → Field
-question_field s = cond (ltb 1023 s.asked) (Bad 35) Question
+abbrev pub question_field : State → Result Field ℕ
+question_field s = cond (ltb 1023 s.asked) (Err 35) (Ok Question)
 
-abbrev pub last_test : List ℕ → State → ℕ → ℕ → Field
+abbrev pub last_test : List ℕ → State → ℕ → ℕ → Result Field ℕ
 last_test file s tag len = by_tag tag (size_field (four_at file (s.at + 3))) (word_field s len) (question_field s)
 
 -- the field where the state stands: its faults "in this order"
-abbrev pub field_at : List ℕ → State → Field
+abbrev pub field_at : List ℕ → State → Result Field ℕ
 field_at file s =
-    cond (cut_short file s.at) (Bad 31)
-    (cond (unknown_tag (tag_at file s.at)) (Bad 32)
-    (cond (out_of_place (tag_at file s.at) s.stage) (Bad 33)
-    (cond (wrong_length (tag_at file s.at) (length_at file s.at)) (Bad 34)
+    cond (cut_short file s.at) (Err 31)
+    (cond (unknown_tag (tag_at file s.at)) (Err 32)
+    (cond (out_of_place (tag_at file s.at) s.stage) (Err 33)
+    (cond (wrong_length (tag_at file s.at) (length_at file s.at)) (Err 34)
     (last_test file s (tag_at file s.at) (length_at file s.at)))))

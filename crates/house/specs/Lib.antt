@@ -1,2 +1,4 @@
+pub mod Faults
+pub mod Tags
 pub mod Fields
 pub mod File

@@ -1,36 +1,49 @@
-// Reading a house file: the word's size, its bytes and the questions, or the number of the first fault.
+// Reading a house file: the word's size, its bytes and the questions, or the first fault.
 // A field is read where it stands; only what is gathered, word bytes and questions, is copied, once.
 #![tactic(auto)]
 
 ghost use Rattle.std.specs.Prelude.{◌≡◌, ◌+◌, ◌*◌, ◌<◌, ◌≤◌, length};
 ghost use Rattle.std.proofs.lemmas.List.Edits.{sets};
-ghost use Rattle.house.specs.Fields.{two_at, four_at, value_at, cut_short, unknown_tag, out_of_place, wrong_length, size_field, word_field, question_field, field_at};
-ghost use Rattle.house.specs.File.{three_of, Read, refused, ended, start, sized, worded, questioned};
+ghost use Rattle.house.specs.Faults.{told};
+ghost use Rattle.house.specs.Tags.{byte_of};
+ghost use Rattle.house.specs.Fields.{four_at, length_at, value_at, cut_short, out_of_place, wrong_length, size_field, word_field, question_field, field_at};
+ghost use Rattle.house.specs.File.{three_of, Read, ended, start, sized, worded, questioned};
 
-// What the fields before the place `at` have told. The stage is 0 before the first field, 1 where the
-// word may go on, and 2 once a question has come.
-#[derive(Clone, Copy)]
-pub struct State {
-    pub at: usize,
-    pub stage: u32,
-    pub m: u32,
-    pub bytes: usize,
-    pub asked: usize,
+pub use fault::Fault;
+use tag::Tag;
+
+mod fault;
+mod tag;
+
+// How far the fields before have come: to none, to where the word may go on, or to a question.
+#[derive(Clone, Copy, PartialEq, Eq)]
+enum Stage {
+    First,
+    Bytes,
+    Questions,
 }
 
-// A field with no fault, or the number of its fault. A word's stretch carries its length: the bytes stay in the file.
+// What the fields before the place `at` have told.
 #[derive(Clone, Copy)]
-pub enum Field {
-    Bad(u32),
+struct State {
+    at: usize,
+    stage: Stage,
+    m: u32,
+    bytes: usize,
+    asked: usize,
+}
+
+// A field with no fault. A word's stretch carries its length: the bytes stay in the file.
+#[derive(Clone, Copy)]
+enum Field {
     Size(u32),
     Word(usize),
     Question,
 }
 
-// What reading gives back: code 0 with m, how many word bytes and how many questions; or a refusal with zeros.
+// What a sound file brings: m, how many word bytes and how many questions.
 #[derive(Clone, Copy)]
 pub struct House {
-    pub code: u32,
     pub m: u32,
     pub bytes: usize,
     pub asked: usize,
@@ -43,7 +56,7 @@ impl State {
     {
         State {
             at: 0,
-            stage: 0,
+            stage: Stage::First,
             m: 0,
             bytes: 0,
             asked: 0,
@@ -56,10 +69,9 @@ impl State {
     {
         State {
             at: self.at + 7,
-            stage: 1,
+            stage: Stage::Bytes,
             m,
-            bytes: self.bytes,
-            asked: self.asked,
+            ..self
         }
     }
 
@@ -69,10 +81,9 @@ impl State {
     {
         State {
             at: self.at + 3 + len,
-            stage: 1,
-            m: self.m,
+            stage: Stage::Bytes,
             bytes: self.bytes + len,
-            asked: self.asked,
+            ..self
         }
     }
 
@@ -82,32 +93,26 @@ impl State {
     {
         State {
             at: self.at + 15,
-            stage: 2,
-            m: self.m,
-            bytes: self.bytes,
+            stage: Stage::Questions,
             asked: self.asked + 1,
+            ..self
         }
     }
 }
 
-fn wide(x: u8) -> u32
-    ensures { (result ≡ x) × (result < 256) }
+// "All numbers most significant first"
+fn length_at(file: &[u8], at: usize) -> usize
+    requires { at + 3 ≤ length file.now }
+    ensures { (result ≡ length_at file.now at) × (result < 65536) }
 {
-    x as u32
-}
-
-fn two_at(file: &[u8], i: usize) -> u32
-    requires { i + 2 ≤ length file.now }
-    ensures { (result ≡ two_at file.now i) × (result < 65536) }
-{
-    wide(file[i]) * 256 + wide(file[i + 1])
+    usize::from(u16::from_be_bytes([file[at + 1], file[at + 2]]))
 }
 
 fn four_at(file: &[u8], i: usize) -> u32
     requires { i + 4 ≤ length file.now }
     ensures { result ≡ four_at file.now i }
 {
-    two_at(file, i) * 65536 + two_at(file, i + 2)
+    u32::from_be_bytes([file[i], file[i + 1], file[i + 2], file[i + 3]])
 }
 
 // "A field's bytes are handed on as that part of the input, uncopied."
@@ -124,93 +129,78 @@ fn cut_short(file: &[u8], at: usize) -> bool
     ensures { result ≡ cut_short file.now at }
 {
     let left = file.len() - at;
-    if left < 3 {
-        return true;
-    }
-    left - 3 < two_at(file, at + 1) as usize
+    left < 3 || left - 3 < length_at(file, at)
 }
 
-fn unknown_tag(tag: u8) -> bool
-    ensures { result ≡ unknown_tag tag }
-{
-    if tag == 0 {
-        return true;
-    }
-    3 < tag
-}
-
-fn out_of_place(tag: u8, stage: u32) -> bool
-    ensures { result ≡ out_of_place tag stage }
+fn out_of_place(tag: Tag, stage: Stage) -> bool
+    ensures { result ≡ out_of_place (byte_of tag) stage }
 {
     match tag {
-        1 => stage != 0,
-        2 => stage != 1,
-        _ => stage == 0,
+        Tag::Size => stage != Stage::First,
+        Tag::Word => stage != Stage::Bytes,
+        Tag::Question => stage == Stage::First,
     }
 }
 
-fn wrong_length(tag: u8, len: usize) -> bool
-    ensures { result ≡ wrong_length tag len }
+fn wrong_length(tag: Tag, len: usize) -> bool
+    ensures { result ≡ wrong_length (byte_of tag) len }
 {
     match tag {
-        1 => len != 4,
-        2 => len == 0,
-        _ => len != 12,
+        Tag::Size => len != 4,
+        Tag::Word => len == 0,
+        Tag::Question => len != 12,
     }
 }
 
-fn size_field(m: u32) -> Field
-    ensures { result ≡ size_field m }
+fn size_field(m: u32) -> Result<Field, Fault>
+    ensures { told result ≡ size_field m }
 {
     if 65536 < m {
-        return Field::Bad(35);
+        return Err(Fault::TooMuch);
     }
-    Field::Size(m)
+    Ok(Field::Size(m))
 }
 
-fn word_field(s: State, len: usize) -> Field
+fn word_field(s: State, len: usize) -> Result<Field, Fault>
     requires { (s.bytes ≤ 8192) × (len < 65536) }
-    ensures { result ≡ word_field s len }
+    ensures { told result ≡ word_field s len }
 {
     if judge::bytes_of(s.m) < s.bytes + len {
-        return Field::Bad(35);
+        return Err(Fault::TooMuch);
     }
-    Field::Word(len)
+    Ok(Field::Word(len))
 }
 
-fn question_field(s: State) -> Field
-    ensures { result ≡ question_field s }
+fn question_field(s: State) -> Result<Field, Fault>
+    ensures { told result ≡ question_field s }
 {
     if 1023 < s.asked {
-        return Field::Bad(35);
+        return Err(Fault::TooMuch);
     }
-    Field::Question
+    Ok(Field::Question)
 }
 
 // "Then the first faulty field decides, in this order: 31 .. 32 .. 33 .. 34 .. 35"
-fn field_at(file: &[u8], s: State) -> Field
+fn field_at(file: &[u8], s: State) -> Result<Field, Fault>
     requires { (s.at < length file.now) × (s.bytes ≤ 8192) }
-    ensures { result ≡ field_at file.now s }
+    ensures { told result ≡ field_at file.now s }
 {
     let at = s.at;
     if cut_short(file, at) {
-        return Field::Bad(31);
+        return Err(Fault::CutShort);
     }
-    let tag = file[at];
-    if unknown_tag(tag) {
-        return Field::Bad(32);
-    }
+    let tag = Tag::try_from(file[at])?;
     if out_of_place(tag, s.stage) {
-        return Field::Bad(33);
+        return Err(Fault::OutOfPlace);
     }
-    let len = two_at(file, at + 1) as usize;
+    let len = length_at(file, at);
     if wrong_length(tag, len) {
-        return Field::Bad(34);
+        return Err(Fault::WrongLength);
     }
     match tag {
-        1 => size_field(four_at(file, at + 3)),
-        2 => word_field(s, len),
-        _ => question_field(s),
+        Tag::Size => size_field(four_at(file, at + 3)),
+        Tag::Word => word_field(s, len),
+        Tag::Question => question_field(s),
     }
 }
 
@@ -224,48 +214,33 @@ fn put_three(value: &[u8], numbers: &mut [u32], to: usize)
     numbers[to + 2] = four_at(value, 8);
 }
 
-fn refusing(code: u32) -> House
-    ensures { result ≡ refused code }
+fn ending(s: State) -> Result<House, Fault>
+    ensures { told result ≡ ended s }
 {
-    House {
-        code,
-        m: 0,
-        bytes: 0,
-        asked: 0,
-    }
-}
-
-fn ending(s: State) -> House
-    ensures { result ≡ ended s }
-{
-    if s.stage == 0 {
-        return refusing(31);
+    if s.stage == Stage::First {
+        return Err(Fault::CutShort);
     }
     if s.bytes < judge::bytes_of(s.m) {
-        return refusing(2);
+        return Err(Fault::TooFewBytes);
     }
-    House {
-        code: 0,
+    Ok(House {
         m: s.m,
         bytes: s.bytes,
         asked: s.asked,
-    }
+    })
 }
 
-// The whole file: word bytes and questions' numbers over the lent arrays from their fronts, which have room for the most that a file may hold.
-pub fn read(file: &[u8], word: &mut [u8; 8192], numbers: &mut [u32; 3072]) -> House
+// The whole file: word bytes and questions' numbers over the lent arrays from their fronts, which have room for the most
+// that a file may hold.
+pub fn read(file: &[u8], word: &mut [u8; 8192], numbers: &mut [u32; 3072]) -> Result<House, Fault>
     ensures { Read file.now word.old numbers.old result word.new numbers.new }
 {
     if 49152 < file.len() {
-        return refusing(35);
+        return Err(Fault::TooMuch);
     }
     let mut s = State::start();
     while s.at < file.len() {
-        let f = field_at(file, s);
-        match f {
-            Field::Bad(code) => {
-                return refusing(code);
-            }
+        match field_at(file, s)? {
             Field::Size(m) => {
                 s = s.sized(m);
             }

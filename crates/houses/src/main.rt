@@ -8,8 +8,9 @@ use std::io;
 // What is shown, and below it what is printed for the file.
 fn show(out: &impl Print, what: &[u8], file: &[u8]) -> io::Result<()> {
     let mut output = [0u8; 33792];
-    let ran = run::run(file, &mut output);
-    let k = ran.value;
+    let Ok(k) = run::run(file, &mut output) else {
+        return Ok(());
+    };
     out.write_all(what)?;
     out.write_all(&output[..k])
 }
@@ -96,13 +97,12 @@ fn answered(out: &impl Print) -> io::Result<()> {
 
 // A question of `kind` about place `a`, over the file from place `at` on.
 fn put_question(file: &mut [u8], at: usize, kind: u8, a: u32)
-    requires { (at + 15 ≤ length file.old) × (a < 65536) }
+    requires { at + 15 ≤ length file.old }
     ensures { length file.new ≡ length file.old }
 {
-    let high = (a / 256) as u8;
-    let low = (a % 256) as u8;
+    let [a0, a1, a2, a3] = a.to_be_bytes();
     fill::copy(
-        &[3, 0, 12, 0, 0, 0, kind, 0, 0, high, low, 0, 0, 0, 0],
+        &[3, 0, 12, 0, 0, 0, kind, a0, a1, a2, a3, 0, 0, 0, 0],
         file,
         at,
     );
@@ -115,29 +115,23 @@ fn fill_largest(file: &mut [u8])
 {
     fill::copy(&[1, 0, 4, 0, 1, 0, 0, 2, 32, 0], file, 0);
     fill::copy(&[255u8; 4096], file, 10);
-    let mut i = 0u32;
-    while i < 1025 {
+    for i in 0..1025u32 {
         put_question(file, 8202 + 15 * i as usize, (i % 14 + 1) as u8, 31 * i);
-        i += 1;
     }
 }
 
 fn last_line(text: &[u8]) -> &[u8] {
-    let mut at = text.len();
-    while 1 < at {
-        if text[at - 2] == b'\n' {
-            return &text[at - 1..];
-        }
-        at -= 1;
-    }
-    text
+    text.split_inclusive(|&b| b == b'\n')
+        .next_back()
+        .unwrap_or(text)
 }
 
 // Of a long text, how many bytes it has and its last line.
 fn show_last(out: &impl Print, what: &[u8], file: &[u8]) -> io::Result<()> {
     let mut output = [0u8; 33792];
-    let ran = run::run(file, &mut output);
-    let k = ran.value;
+    let Ok(k) = run::run(file, &mut output) else {
+        return Ok(());
+    };
     out.write_all(what)?;
     out.print(k as u64)?;
     out.write_all(b" bytes\n")?;

@@ -2,7 +2,8 @@
 use mathlib.Core.Path.{◌≡◌, refl, sym, ap, ◌∙◌}
 use mathlib.Core.Bool.{false}
 use Rattle.index.specs.Shape.{blocks, height_from, height, numbers_of}
-use Prim.Native.Nat.{ℕ, zero, suc, ◌+◌, ◌*◌, ◌^◌, ◌≤◌, ◌<◌}
+use Prim.Native.Nat.{ℕ, zero, suc, ◌+◌, ◌*◌, ◌/◌, ◌%◌, ◌^◌, ◌≤◌, ◌<◌, min, max}
+use Rattle.std.specs.Int.{IsPowerOfTwo}
 use native.Mathlib.Omega.{arith}
 use native.Mathlib.Nat.{two-pow-succ, pow-le-pow_right, one-le-pow}
 use native.Mathlib.Decide.{dec_lt}
@@ -59,24 +60,10 @@ pub numbers_are : (m : ℕ) → numbers_of m ≡ 8 * 2 ^ height m
 unfolding numbers_of
 numbers_are m = refl
 
--- a power of two that is tried from 1 on, and is not yet past the leaves
-pub record Tried (m l : ℕ) : Type 0 where
-  pub exponent : ℕ
-  pub power : l ≡ 2 ^ exponent
-  pub low : exponent ≤ height m
-
-pub tried_one : (m : ℕ) → Tried m 1
-tried_one m = record { exponent = 0; power = refl; low = omega arith }
-
-pub tried_more : (m l : ℕ) → Tried m l → l < blocks m → Tried m (l * 2)
-tried_more m l t h = record { exponent = suc t.exponent; power = omega (arith, t.power, two-pow-succ t.exponent); low = over (dec_lt t.exponent (height m)) }
+-- "L is the least power of two that is at least 1 and at least B", as std has it: a power of two, no less than B, whose half is less
+pub leaves_are : (m b l : ℕ) → b ≡ m / 256 + min 1 (m % 256) → IsPowerOfTwo l → b ≤ l → l / 2 < max 1 b → l ≡ 2 ^ height m
+leaves_are m b l e p low high = p.1 ∙ ap (λ g. 2 ^ g) (by (dec_lt (height m) p.0))
   where
-    over : Dec (t.exponent < height m) → suc t.exponent ≤ height m
-    over (yes z) = z
-    over (no z) = absurd (omega (arith, t.power, height_enough m, pow-le-pow_right (let two : 1 ≤ 2 = omega arith in two) (let e : height m ≤ t.exponent = omega arith in e)))
-
-pub tried_some : (m l : ℕ) → Tried m l → 1 ≤ l
-tried_some m l t = omega (arith, t.power, one-le-pow t.exponent 2 (omega arith))
-
-pub tried_enough : (m l : ℕ) → Tried m l → blocks m ≤ l → l ≡ 2 ^ height m
-tried_enough m l t h = t.power ∙ ap (λ g. 2 ^ g) (let k : height m ≤ t.exponent = height_least m t.exponent (omega (arith, t.power)) in omega (arith, t.low))
+    by : Dec (height m < p.0) → p.0 ≡ height m
+    by (yes z) = absurd (omega (arith, p.1, two-pow-succ (height m), pow-le-pow_right (let two : 1 ≤ 2 = omega arith in two) z, height_enough m, one-le-pow (height m) 2 (omega arith)))
+    by (no z) = omega (arith, height_least m p.0 (omega (arith, p.1)))

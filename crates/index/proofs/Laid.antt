@@ -1,13 +1,13 @@
 -- Entries laid over the numbers lent, from the last to the first, and what is read back. Assumes nothing.
 use mathlib.Core.Path.{◌≡◌, refl, sym, ap, ◌∙◌}
-use mathlib.Core.List.{List, [], ◌∷◌, ◌++◌}
+use mathlib.Core.List.{List, [], ◌∷◌, ◌++◌, append_assoc}
 use Prim.Native.Nat.{ℕ, suc, ◌+◌, ◌*◌, ◌≤◌, ◌<◌}
-use native.Mathlib.Numerals.{unary_clauses}
 use native.Mathlib.Omega.{arith}
 use lib.ListN.{length, set, get_or, take, drop, length-append, length-take, get_or-append}
-use lib.Seq.{sets, sets-eq, set_comm, get_or-append-add}
+use lib.Seq.{sets, sets-eq, drop-drop, set_comm, get_or-append-add}
 use lib.IntN.{ℤ, pos}
 use lib.Signed.{mag}
+use borrow.Rule.Slice.PartMut.{put_mid}
 use mir.Syntax.{w32}
 use mir.Val.{to_z, of_z}
 use mir.Facts.{to_z-of_z}
@@ -23,9 +23,11 @@ rb z = to_z w32 (of_z w32 z)
 rb_is : (z : ℤ) → mag z < 2147483648 → rb z ≡ z
 rb_is z h = to_z-of_z {w = w32} (record { sfits = h })
 
-pub laid : (l : List ℤ) (i : ℕ) (s : Summary) → mag s.total < 2147483648 → mag s.least < 2147483648 → mag s.greatest < 2147483648 → mag s.count < 2147483648
-    → set (set (set (set l i (rb s.total)) (i + 1) (rb s.least)) (i + 2) (rb s.greatest)) (i + 3) (rb s.count) ≡ sets l i (four s)
-laid l i s t u v w = rw (rb_is s.total t, rb_is s.least u, rb_is s.greatest v, rb_is s.count w) (simp unary_clauses)
+-- an entry's four numbers, written over the four places from i on
+pub laid : (l vs : List ℤ) (i k : ℕ) (s : Summary) → vs ≡ rb s.total ∷ rb s.least ∷ rb s.greatest ∷ rb s.count ∷ [] → k ≡ 4 → i + 3 < length l
+    → mag s.total < 2147483648 → mag s.least < 2147483648 → mag s.greatest < 2147483648 → mag s.count < 2147483648
+    → put_mid i k l vs ≡ sets l i (four s)
+laid l vs i k s e n h t u v w = rw (e, n, rb_is s.total t, rb_is s.least u, rb_is s.greatest v, rb_is s.count w, sets-eq (four s) l i (omega arith), append_assoc, drop-drop)
 
 -- ---- writing over a list, the later part first
 module _ {A : Type 0} where

@@ -21,31 +21,21 @@ pub fn read(index: &[i32], k: usize) -> Summary
     }
 }
 
+#[tactic(auto, using(crate::proofs::Laid::laid))]
 pub fn put(index: &mut [i32], k: usize, s: Summary)
     requires { 4 * k + 3 < length index.old }
     ensures { index.new ≡ sets index.old (4 * k) (four s) }
 {
-    let total = s.total;
-    let least = s.least;
-    let greatest = s.greatest;
-    let count = s.count;
-    index[4 * k] = total;
-    index[4 * k + 1] = least;
-    index[4 * k + 2] = greatest;
-    index[4 * k + 3] = count;
+    index[4 * k..4 * k + 4].copy_from_slice(&[s.total, s.least, s.greatest, s.count]);
 }
 
 // "L is the least power of two that is at least 1 and at least B".
-pub fn leaves(m: u32) -> usize
+#[tactic(auto, using(crate::proofs::Height::leaves_are))]
+pub fn leaves(m: usize) -> usize
     requires { m ≤ 2097152 }
     ensures { result ≡ 2 ^ height m }
 {
-    let blocks = (m as usize + 255) / 256;
-    let mut l = 1;
-    while l < blocks {
-        l *= 2;
-    }
-    l
+    m.div_ceil(256).next_power_of_two()
 }
 
 // 8L, how many numbers the index takes.
@@ -53,5 +43,5 @@ pub fn numbers_of(m: u32) -> usize
     requires { m ≤ 2097152 }
     ensures { result ≡ numbers_of m }
 {
-    8 * leaves(m)
+    8 * leaves(m as usize)
 }

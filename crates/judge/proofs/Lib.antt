@@ -2,3 +2,4 @@ pub mod First
 pub mod Judged
 pub mod Settled
 pub mod Tests
+pub mod Told

@@ -17,6 +17,10 @@ too_few_bytes bytes m = ltb (length bytes) (bytes_of m)
 abbrev pub unbalanced : List ℕ → ℕ → Bool
 unbalanced bytes m = not (is_balanced (word bytes m))
 
+-- the first two alone, which every call begins with
+abbrev pub unlent : List ℕ → ℕ → ℕ
+unlent bytes m = first_of ((too_long m, 1) ∷ (too_few_bytes bytes m, 2) ∷ [])
+
 abbrev pub refusal : List ℕ → ℕ → ℕ
 refusal bytes m = first_of ((too_long m, 1) ∷ (too_few_bytes bytes m, 2) ∷ (unbalanced bytes m, 6) ∷ [])
 

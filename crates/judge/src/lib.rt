@@ -1,10 +1,17 @@
 // The judge: whether the lent bytes hold a balanced word of m bits.
 #![tactic(auto)]
 
-ghost use Rattle.std.specs.Prelude.{◌≡◌, ◌≤◌, length};
-ghost use Rattle.word.specs.Bits.{word, bytes_of};
+ghost use Rattle.std.specs.Prelude.{◌≡◌, ◌≤◌, IfOk};
+ghost use Rattle.word.specs.Bits.{bytes_of};
 ghost use Rattle.word.specs.Parse.{is_balanced};
-ghost use Rattle.judge.specs.Judge.{refusal, judged};
+ghost use Rattle.word.specs.Row.{word_of};
+ghost use Rattle.judge.specs.Judge.{unlent, refusal, judged};
+ghost use Rattle.judge.specs.Refusal.{code_of, outcome, verdict};
+
+pub use refusal::Refusal;
+use word::Row;
+
+mod refusal;
 
 // What an entry point gives back: a refusal's number or 0, and the number that the call names beside it.
 #[repr(C)]
@@ -14,44 +21,72 @@ pub struct Outcome {
     pub value: usize,
 }
 
+impl From<Result<usize, Refusal>> for Outcome {
+    ghost from_gives = { λ r o. o ≡ outcome r };
+
+    fn from(ended: Result<usize, Refusal>) -> Outcome {
+        match ended {
+            Ok(value) => Outcome { code: 0, value },
+            Err(refusal) => Outcome {
+                code: u32::from(refusal),
+                value: 0,
+            },
+        }
+    }
+}
+
+// Of a call that names no number.
+impl From<Result<(), Refusal>> for Outcome {
+    ghost from_gives = { λ r o. o ≡ verdict r };
+
+    fn from(ended: Result<(), Refusal>) -> Outcome {
+        Outcome::from(ended.map(|()| 0))
+    }
+}
+
 // ceil(m/8)
 pub fn bytes_of(m: u32) -> usize
     ensures { result ≡ bytes_of m }
 {
-    (m as usize + 7) / 8
+    (m as usize).div_ceil(8)
 }
 
 // D ends at 0 and is never negative on the way.
 #[tactic(auto, using(crate::proofs::Tests::by_least, crate::proofs::Tests::by_total))]
-pub fn balanced(bytes: &[u8], m: u32) -> bool
-    requires { (m ≤ 2097152) × (bytes_of m ≤ length bytes.now) }
-    ensures { result ≡ is_balanced (word bytes.now m) }
+pub fn balanced(row: &Row<'_>) -> bool
+    requires { row.now.m ≤ 2097152 }
+    ensures { result ≡ is_balanced (word_of row.now) }
 {
-    let s = table::stretch(bytes, 0, m as usize);
+    let s = table::stretch(row.bytes, 0, row.m);
     s.total == 0 && s.least >= 0
 }
 
-// The number of the first refusal, or 0.
-fn refused(bytes: &[u8], m: u32) -> u32
-    ensures { result ≡ refusal bytes.now m }
+// The row that is lent, where it is no longer than a word may be and all its bytes are there.
+#[tactic(auto, unfolding(crate::specs::Judge::judged))]
+pub fn lent(bytes: &[u8], m: u32) -> Result<Row<'_>, Refusal>
+    ensures code { code_of result ≡ unlent bytes.now m }
+    ensures row { IfOk result (λ row. (row.bytes.now ≡ bytes.now) × (row.m ≡ m) × (m ≤ 2097152)) }
 {
     if m > 2097152 {
-        return 1;
+        return Err(Refusal::TooLong);
     }
     if bytes.len() < bytes_of(m) {
-        return 2;
+        return Err(Refusal::TooFewBytes);
     }
-    if !balanced(bytes, m) {
-        return 6;
-    }
-    0
+    Ok(Row {
+        bytes,
+        m: m as usize,
+    })
 }
 
-pub fn judge(bytes: &[u8], m: u32) -> Outcome
-    ensures { result ≡ judged bytes.now m }
+// The first refusal that holds, or none.
+#[tactic(auto, unfolding(crate::specs::Judge::judged))]
+pub fn judge(bytes: &[u8], m: u32) -> Result<(), Refusal>
+    ensures { verdict result ≡ judged bytes.now m }
 {
-    Outcome {
-        code: refused(bytes, m),
-        value: 0,
+    let row = lent(bytes, m)?;
+    if !balanced(&row) {
+        return Err(Refusal::Unbalanced);
     }
+    Ok(())
 }

@@ -27,7 +27,8 @@ fn main(rt: HostRuntime) -> io::Result<()> {
     // All that the longest text takes, so that `run` always writes.
     let mut output = [0u8; 33792];
     let n = read_full(&mut rt.reader(), &mut input)?;
-    let ran = run::run(&input[..n], &mut output);
-    let k = ran.value;
+    let Ok(k) = run::run(&input[..n], &mut output) else {
+        return Ok(());
+    };
     rt.stdout().write_all(&output[..k])
 }

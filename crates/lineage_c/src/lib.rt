@@ -13,14 +13,14 @@ use judge::Outcome;
 pub extern "C" fn lineage_judge(bytes: &[u8], m: u32) -> Outcome
     ensures { result ≡ judged bytes.now m }
 {
-    judge::judge(bytes, m)
+    Outcome::from(judge::judge(bytes, m))
 }
 
 #[unsafe(no_mangle)]
 pub extern "C" fn lineage_build(bytes: &[u8], m: u32, index: &mut [i32]) -> Outcome
     ensures { Built bytes.now m index.old result index.new }
 {
-    build::build(bytes, m, index)
+    Outcome::from(build::build(bytes, m, index))
 }
 
 #[unsafe(no_mangle)]
@@ -33,5 +33,5 @@ pub extern "C" fn lineage_batch(
 ) -> Outcome
     ensures { Batched bytes.now m index.now questions.now answers.old result answers.new }
 {
-    batch::batch(bytes, m, index, questions, answers)
+    Outcome::from(batch::batch(bytes, m, index, questions, answers))
 }

@@ -1,16 +1,10 @@
--- The climb's state in code, and the walk's answer.
--- What a step asks of the state, and what it gives.
+-- The climb's state in code: what a step asks of the state, and what it gives.
 use Rattle.std.specs.Prelude.{◌≡◌, List, ℕ, ◌+◌, ◌*◌, ◌/◌, ◌≤◌, ◌<◌, length, ℤ, nat_abs, ◌+ℤ◌}
 use Rattle.summary.specs.declared.Summary.{Summary}
 use Rattle.index.specs.Lent.{entry_at}
-use Rattle.walk.specs.declared.Seen.{Seen}
+use Rattle.walk.specs.declared.Counted.{Counted}
 use Rattle.walk.specs.Beside.{before_of}
 use Rattle.prefix.specs.declared.Rise.{Rise}
-use Rattle.prefix.specs.declared.Depth.{Depth}
-
--- the code's answer, as the depth and the reads
-abbrev pub told : Depth → ℤ × ℕ
-told r = (r.depth, r.reads)
 
 abbrev pub rise : ℕ → ℤ → ℕ → Rise
 rise k d n = record { entry = k; depth = d; reads = n }
@@ -24,7 +18,7 @@ pub record Stands (idx : List ℤ) (v : Rise) : Type 0 where
 
 -- "reading k-1 at each odd entry above 1", then to the entry above, by whatever reads an entry
 abbrev pub raised : (ℕ → Summary) → Rise → Rise
-raised e v = let s : Seen = before_of e v.entry v.reads in rise (v.entry / 2) (v.depth +ℤ s.summary.total) s.reads
+raised e v = let s : Counted Summary = before_of e v.entry v.reads in rise (v.entry / 2) (v.depth +ℤ s.value.total) s.reads
 
 -- one total changes the depth by at most 2 ^ 31
 pub record Risen (idx : List ℤ) (v r : Rise) : Type 0 where

@@ -3,19 +3,15 @@
 #![tactic(auto)]
 
 ghost use Rattle.std.specs.Prelude.{◌≡◌, ◌-◌, ◌*◌, ◌<◌, ◌≤◌, length};
-ghost use Rattle.word.specs.Bits.{bits, word};
+ghost use Rattle.word.specs.Bits.{bits};
+ghost use Rattle.word.specs.Row.{word_of};
 ghost use Rattle.summary.specs.Stretch.{depth_of};
 ghost use Rattle.index.specs.Shape.{height};
-ghost use Rattle.walk.specs.Lent.{Lent};
+ghost use Rattle.walk.specs.Walk.{told};
 ghost use Rattle.walk.specs.Prefix.{prefix};
-ghost use Rattle.prefix.specs.Rise.{Stands, Risen, told};
+ghost use Rattle.prefix.specs.Rise.{Stands, Risen};
 
-// D(p), and the entries read.
-#[derive(Clone, Copy)]
-pub struct Depth {
-    pub depth: i64,
-    pub reads: u32,
-}
+use walk::{Counted, Lineage};
 
 // The climb's state: the entry, the depth of p from its start, and the reads.
 #[derive(Clone, Copy)]
@@ -30,8 +26,7 @@ fn depth_of(bytes: &[u8], from: usize, to: usize) -> i64
     requires { (from ≤ to) × (to ≤ 8 * length bytes.now) × (to ≤ 2097152) }
     ensures { result ≡ depth_of (bits bytes.now from (to - from)) }
 {
-    let s = table::stretch(bytes, from, to);
-    walk::wide(s.total)
+    i64::from(table::stretch(bytes, from, to).total)
 }
 
 impl Rise {
@@ -42,32 +37,30 @@ impl Rise {
     {
         let k = self.entry;
         let seen = walk::before(index, k, self.reads);
-        let s = seen.summary;
         Rise {
             entry: k / 2,
-            depth: walk::plus(self.depth, s.total),
+            depth: self.depth + i64::from(seen.value.total),
             reads: seen.reads,
         }
     }
 }
 
-// "Climb from block p/256, reading k-1 at each odd entry above 1."
-pub fn prefix(bytes: &[u8], m: usize, index: &[i32], l: usize, p: usize) -> Depth
-    requires { Lent bytes.now index.now m l × (p < m) }
-    ensures { told result ≡ prefix (height m) (word bytes.now m) p }
+// "Climb from block p/256, reading k-1 at each odd entry above 1.": D(p), and the entries read.
+pub fn prefix(lineage: &Lineage<'_>, p: usize) -> Counted<i64>
+    requires { p < lineage.now.row.m }
+    ensures { told result ≡ prefix (height lineage.now.row.m) (word_of lineage.now.row) p }
 {
     let b = p / 256;
-    let depth = depth_of(bytes, 256 * b, p);
     let mut v = Rise {
-        entry: l + b,
-        depth: depth,
+        entry: lineage.l + b,
+        depth: depth_of(lineage.row.bytes, 256 * b, p),
         reads: 0,
     };
     while v.entry > 1 {
-        v = v.up(index);
+        v = v.up(lineage.index);
     }
-    Depth {
-        depth: v.depth,
+    Counted {
+        value: v.depth,
         reads: v.reads,
     }
 }

@@ -21,12 +21,11 @@ use Rattle.walk.specs.Forward.{forward}
 use Rattle.walk.specs.Backward.{backward}
 use Rattle.walk.proofs.Forward.{forward_some, forward_none}
 use Rattle.walk.proofs.Backward.{backward_some, backward_none}
-use Rattle.question.specs.declared.Answer.{Answer}
 use Rattle.question.specs.declared.Question.{Question}
 use Rattle.question.specs.declared.Question.TheVariants.{Closing, Opening, Parent, Ancestor, Branch, FirstChild, NextSibling, Holds}
 use Rattle.question.specs.Reply.{Reply, gives, found, reply_of}
 use Rattle.question.specs.Reads.{reads_of}
-use Rattle.question.specs.Answer.{answer_to}
+use Rattle.question.specs.Answer.{Answer, answer_to}
 use Rattle.question.proofs.Word.{over, forest_is, on_forest, node_on}
 
 abbrev pub answer : Reply → ℕ → Answer

@@ -11,6 +11,7 @@ use lib.Dec.{eqb, ltb}
 use lib.ListN.{length, get_or}
 use lib.IntN.{ℤ, pos, negsuc, neg_ℤ, ◌-ℤ◌}
 use lib.Signed.{le_z}
+use Rattle.std.specs.Prelude.{Result, Ok, Err}
 use Rattle.word.specs.Parse.{is_balanced}
 use Rattle.index.specs.Shape.{height}
 use Rattle.index.proofs.Height.{height_reaches}
@@ -24,9 +25,9 @@ use Rattle.walk.proofs.Prefix.{prefix_reads}
 use Rattle.walk.proofs.Select.{select_reads}
 use Rattle.walk.proofs.Range.{range_reads}
 use Rattle.question.specs.declared.Question.{Question}
-use Rattle.question.specs.declared.Question.TheVariants.{Depth, Number, WithNumber, Closing, Opening, Parent, Ancestor, Branch, Children, FirstChild, NextSibling, Nearest, Lowest, Holds, Refused}
+use Rattle.question.specs.declared.Question.TheVariants.{Depth, Number, WithNumber, Closing, Opening, Parent, Ancestor, Branch, Children, FirstChild, NextSibling, Nearest, Lowest, Holds}
 use Rattle.question.specs.Decode.{decode_of}
-use Rattle.question.specs.Reads.{or_zero, reads_of, nearest_reads, lowest_reads}
+use Rattle.question.specs.Reads.{or_zero, reads_of, reads_to, nearest_reads, lowest_reads}
 use Rattle.question.specs.Places.{IsNode, Sound}
 use Rattle.question.proofs.Sound.{decode_sound}
 use Rattle.question.proofs.Answers.{ends_some}
@@ -94,8 +95,11 @@ module _ (w : List Bool) (balanced : is_balanced w ≡ true) where
       apart (no d) = rw (ne_eqb a b d)
           (walks (omega (arith, d, n)) (range h w a b).0.least (range h w a b).1 (range_reads h w over a b (omega (arith, d, n)) n.1))
   reads_few (Holds a b) n = omega (arith, forward_reads h w over a (pos 0) n.0.below)
-  reads_few (Refused c) n = omega arith
 
   -- "never over four times the index's height"
-  pub decoded_few : (kind a b : ℕ) → reads_of h w (decode_of w kind a b) ≤ 4 * h
-  decoded_few kind a b = reads_few (decode_of w kind a b) (decode_sound w kind a b)
+  pub decoded_few : (kind a b : ℕ) → reads_to h w (decode_of w kind a b) ≤ 4 * h
+  decoded_few kind a b = few (decode_of w kind a b) refl
+    where
+      few : (d : Result Question ℕ) → decode_of w kind a b ≡ d → reads_to h w d ≤ 4 * h
+      few (Ok q) e = reads_few q (decode_sound w kind a b e)
+      few (Err c) e = omega arith

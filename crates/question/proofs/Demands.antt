@@ -9,6 +9,7 @@ use native.Mathlib.Omega.{arith}
 use borrow.Author.Tests.{lt-ltb}
 use lib.Dec.{eqb}
 use lib.ListN.{length, get_or}
+use Rattle.std.specs.Prelude.{Ok}
 use Rattle.word.specs.Forest.{Forest, encode}
 use Rattle.word.specs.Parse.{is_balanced, forest_of}
 use Rattle.word.specs.Questions.{number, ancestor, branch, nearest, holds}
@@ -17,12 +18,12 @@ use Rattle.word.proofs.Demands.{and_then, meet, climb_climb, ancestor_node, near
 use Rattle.question.specs.declared.Question.{Question}
 use Rattle.question.specs.declared.Question.TheVariants.{Number, Ancestor, Branch, Nearest, Holds}
 use Rattle.question.specs.Decode.{node, unless, decode_of}
-use Rattle.question.specs.Reply.{Reply, gives, found, reply_of}
+use Rattle.question.specs.Reply.{Reply, gives, found, reply_of, reply_to}
 use Rattle.question.proofs.Word.{forest_is, node_on}
 
 -- code and result that a question gets
 abbrev pub asked : List Bool → ℕ → ℕ → ℕ → Reply
-asked w kind a b = reply_of w (forest_of w) (decode_of w kind a b)
+asked w kind a b = reply_to w (decode_of w kind a b)
 
 -- the next question, asked of what the first one gave; a refusal is passed on as it is
 abbrev pub next : Reply → (ℕ → Reply) → Reply
@@ -49,32 +50,32 @@ module _ (w : List Bool) (balanced : is_balanced w ≡ true) where
   node_to : (a : ℕ) → get_or (encode f) a false ≡ true → Node a
   node_to a o = subst (λ u. get_or u a false ≡ true) (forest_is w balanced) o
 
-  passes : (a : ℕ) (q : Question) → Node a → unless (node w a []) q ≡ q
+  passes : (a : ℕ) (q : Question) → Node a → unless (node w a []) q ≡ Ok q
   passes a q o = rw (lt-ltb a (length w) (bit_in w a false o), o)
 
-  pass : (a b : ℕ) (q : Question) → Node a → Node b → unless (node w a (node w b [])) q ≡ q
+  pass : (a b : ℕ) (q : Question) → Node a → Node b → unless (node w a (node w b [])) q ≡ Ok q
   pass a b q o p = rw (lt-ltb a (length w) (bit_in w a false o), o, lt-ltb b (length w) (bit_in w b false p), p)
 
   -- what the kinds of demand 3 give of nodes
   number_of : (a b : ℕ) → Node a → asked w 2 a b ≡ found (number f a)
   unfolding decode_of reply_of
-  number_of a b o = ap (reply_of w f) (passes a (Number a) o)
+  number_of a b o = ap (reply_to w) (passes a (Number a) o)
 
   ancestor_of : (a b : ℕ) → Node a → asked w 7 a b ≡ found (ancestor f a b)
   unfolding decode_of reply_of
-  ancestor_of a b o = ap (reply_of w f) (passes a (Ancestor a b) o)
+  ancestor_of a b o = ap (reply_to w) (passes a (Ancestor a b) o)
 
   branch_of : (a b : ℕ) → Node a → asked w 8 a b ≡ found (branch f a)
   unfolding decode_of reply_of
-  branch_of a b o = ap (reply_of w f) (passes a (Branch a) o)
+  branch_of a b o = ap (reply_to w) (passes a (Branch a) o)
 
   nearest_of : (a b : ℕ) → Node a → Node b → asked w 12 a b ≡ found (nearest f a b)
   unfolding decode_of reply_of
-  nearest_of a b o p = ap (reply_of w f) (pass a b (Nearest a b) o p)
+  nearest_of a b o p = ap (reply_to w) (pass a b (Nearest a b) o p)
 
   holds_of : (a b : ℕ) → Node a → Node b → asked w 14 a b ≡ gives (cond (holds f a b) 1 0)
   unfolding decode_of reply_of
-  holds_of a b o p = ap (reply_of w f) (pass a b (Holds a b) o p)
+  holds_of a b o p = ap (reply_to w) (pass a b (Holds a b) o p)
 
   -- "climbing j and then k ends where climbing j+k ends, or neither way finds a node"
   pub climbing : (a j k : ℕ) → Node a → next (asked w 7 a j) (λ p. asked w 7 p k) ≡ asked w 7 a (j + k)

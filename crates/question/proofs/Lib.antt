@@ -4,6 +4,7 @@ pub mod Checks
 pub mod Children
 pub mod Codes
 pub mod Demands
+pub mod Faults
 pub mod Least
 pub mod Marked
 pub mod Ranges

@@ -14,11 +14,10 @@ use Rattle.walk.specs.Backward.{climb_back, descend_back, backward}
 use Rattle.walk.specs.Prefix.{prefix_up, prefix}
 use Rattle.walk.specs.Select.{select_down, select}
 use Rattle.walk.specs.Range.{range_up, range}
-use Rattle.question.specs.declared.Answer.{Answer}
 use Rattle.question.specs.Decode.{decode_of}
 use Rattle.question.specs.Reply.{reply_of}
 use Rattle.question.specs.Reads.{reads_of}
-use Rattle.question.specs.Answer.{answer_to, answer_of}
+use Rattle.question.specs.Answer.{Answer, answer_to, answer_of}
 
 -- "W is `(()(()()))()`: m = 12, bytes 5B 04"
 abbrev asked : ℕ → ℕ → ℕ → Answer

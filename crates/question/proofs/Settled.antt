@@ -1,12 +1,20 @@
--- No second outcome fits the promise of this crate's public function. Assumes nothing.
+-- No second outcome fits the promise of this crate's public functions. Assumes nothing.
 use mathlib.Core.Path.{◌≡◌}
 use mathlib.Core.List.{List}
 use Prim.Native.Nat.{ℕ}
+use Rattle.std.specs.Prelude.{Result}
 use Rattle.word.specs.Bits.{word}
 use Rattle.word.specs.Settles.{Settles}
-use Rattle.word.proofs.Settled.{by_equation}
+use Rattle.word.proofs.Settled.{by_equation, by_telling}
 use Rattle.question.specs.declared.Question.{Question}
+use Rattle.question.specs.declared.fault.Fault.{Fault}
+use Rattle.question.specs.Fault.{number_of, numbered}
 use Rattle.question.specs.Decode.{decode_of}
+use Rattle.question.proofs.Faults.{numbered_apart}
 
-pub decode_settled : (bytes : List ℕ) (m kind a b : ℕ) → Settles {A = Question} (λ r. r ≡ decode_of (word bytes m) kind a b)
-decode_settled bytes m kind a b = by_equation (decode_of (word bytes m) kind a b)
+pub decode_settled : (bytes : List ℕ) (m kind a b : ℕ) → Settles {A = Result Question Fault} (λ r. numbered r ≡ decode_of (word bytes m) kind a b)
+decode_settled bytes m kind a b = by_telling numbered numbered_apart (decode_of (word bytes m) kind a b)
+
+-- the number of a fault
+pub from_settled : (f : Fault) → Settles {A = ℕ} (λ n. n ≡ number_of f)
+from_settled f = by_equation (number_of f)

@@ -1,8 +1,8 @@
 -- Which question three numbers ask, after the checks of its places; or the number of the first check that fails.
-use Rattle.std.specs.Prelude.{Bool, true, false, cond, not, List, [], ◌∷◌, ℕ, zero, suc, ltb, eqb, length, get_or}
+use Rattle.std.specs.Prelude.{Bool, true, false, cond, not, List, [], ◌∷◌, ℕ, zero, suc, ltb, eqb, length, get_or, Result, Ok, Err}
 use Rattle.judge.specs.First.{first_of}
 use Rattle.question.specs.declared.Question.{Question}
-use Rattle.question.specs.declared.Question.TheVariants.{Depth, Number, WithNumber, Closing, Opening, Parent, Ancestor, Branch, Children, FirstChild, NextSibling, Nearest, Lowest, Holds, Refused}
+use Rattle.question.specs.declared.Question.TheVariants.{Depth, Number, WithNumber, Closing, Opening, Parent, Ancestor, Branch, Children, FirstChild, NextSibling, Nearest, Lowest, Holds}
 
 -- a check that fails, and its number
 abbrev pub Checks : Type 0
@@ -21,19 +21,19 @@ abbrev pub boundaries : List Bool → ℕ → ℕ → Checks
 boundaries w a b = (ltb (length w) a, 12) ∷ (ltb (length w) b, 12) ∷ (ltb b a, 15) ∷ []
 
 -- "A question checks 11 to 16 in order, but argument a wholly (12 to 14) before b."
-abbrev pub refusing : ℕ → Question → Question
-refusing zero q = q
-refusing (suc c) q = Refused (suc c)
+abbrev pub refusing : {A : Type 0} → ℕ → A → Result A ℕ
+refusing zero q = Ok q
+refusing (suc c) q = Err (suc c)
 
-abbrev pub unless : Checks → Question → Question
+abbrev pub unless : {A : Type 0} → Checks → A → Result A ℕ
 unless cs q = refusing (first_of cs) q
 
 -- "11: kind not 1 to 14"
-unfoldable pub decode_of : List Bool → ℕ → ℕ → ℕ → Question
+unfoldable pub decode_of : List Bool → ℕ → ℕ → ℕ → Result Question ℕ
 decode_of w kind a b =
     cond (eqb kind 1) (unless (node w a []) (Depth a))
     (cond (eqb kind 2) (unless (node w a []) (Number a))
-    (cond (eqb kind 3) (WithNumber a)
+    (cond (eqb kind 3) (Ok (WithNumber a))
     (cond (eqb kind 4) (unless (node w a []) (Closing a))
     (cond (eqb kind 5) (unless (closing w a) (Opening a))
     (cond (eqb kind 6) (unless (node w a []) (Parent a))
@@ -44,4 +44,4 @@ decode_of w kind a b =
     (cond (eqb kind 11) (unless (node w a []) (NextSibling a))
     (cond (eqb kind 12) (unless (node w a (node w b [])) (Nearest a b))
     (cond (eqb kind 13) (unless (boundaries w a b) (Lowest a b))
-    (cond (eqb kind 14) (unless (node w a (node w b [])) (Holds a b)) (Refused 11))))))))))))))
+    (cond (eqb kind 14) (unless (node w a (node w b [])) (Holds a b)) (Err 11))))))))))))))

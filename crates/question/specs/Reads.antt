@@ -1,5 +1,5 @@
 -- How many index entries a question reads: those of the walks that document 01's table names for its kind.
-use Rattle.std.specs.Prelude.{Bool, false, cond, List, ℕ, suc, ◌+◌, ◌-◌, ◌/◌, min, max, eqb, ltb, length, get_or, pos, negsuc, neg_ℤ, ◌-ℤ◌}
+use Rattle.std.specs.Prelude.{Bool, false, cond, List, ℕ, suc, ◌+◌, ◌-◌, ◌/◌, min, max, eqb, ltb, length, get_or, pos, negsuc, neg_ℤ, ◌-ℤ◌, Result, Ok, Err}
 use Rattle.std.proofs.Math.Option.{Option, none, some}
 use Rattle.std.specs.Int.Signed.{le_z}
 use Rattle.walk.specs.Walk.{Reach}
@@ -9,7 +9,7 @@ use Rattle.walk.specs.Prefix.{prefix}
 use Rattle.walk.specs.Select.{select}
 use Rattle.walk.specs.Range.{range}
 use Rattle.question.specs.declared.Question.{Question}
-use Rattle.question.specs.declared.Question.TheVariants.{Depth, Number, WithNumber, Closing, Opening, Parent, Ancestor, Branch, Children, FirstChild, NextSibling, Nearest, Lowest, Holds, Refused}
+use Rattle.question.specs.declared.Question.TheVariants.{Depth, Number, WithNumber, Closing, Opening, Parent, Ancestor, Branch, Children, FirstChild, NextSibling, Nearest, Lowest, Holds}
 
 abbrev pub or_zero : Option ℕ → ℕ
 or_zero none = 0
@@ -50,4 +50,8 @@ reads_of h w (NextSibling a) = (ahead h w a).1
 reads_of h w (Nearest a b) = cond (eqb a b) 0 (nearest_reads h w (min a b) (max a b))
 reads_of h w (Lowest a b) = cond (eqb a b) 0 (lowest_reads h w a b)
 reads_of h w (Holds a b) = (ahead h w a).1
-reads_of h w (Refused c) = 0
+
+-- "Codes 11 to 15 give result 0 and reads 0."
+abbrev pub reads_to : ℕ → List Bool → Result Question ℕ → ℕ
+reads_to h w (Ok q) = reads_of h w q
+reads_to h w (Err c) = 0

@@ -1,10 +1,11 @@
 -- Code and result of a question, read off the word's forest or its running depth.
-use Rattle.std.specs.Prelude.{Bool, cond, List, ℕ, ◌-◌}
+use Rattle.std.specs.Prelude.{Bool, cond, List, ℕ, ◌-◌, Result, Ok, Err}
 use Rattle.std.proofs.Math.Option.{Option, none, some}
 use Rattle.word.specs.Forest.{Forest}
+use Rattle.word.specs.Parse.{forest_of}
 use Rattle.word.specs.Questions.{depth, number, with_number, closing_of, opening_of, parent, ancestor, branch, children, first_child, next_sibling, nearest, lowest, holds}
 use Rattle.question.specs.declared.Question.{Question}
-use Rattle.question.specs.declared.Question.TheVariants.{Depth, Number, WithNumber, Closing, Opening, Parent, Ancestor, Branch, Children, FirstChild, NextSibling, Nearest, Lowest, Holds, Refused}
+use Rattle.question.specs.declared.Question.TheVariants.{Depth, Number, WithNumber, Closing, Opening, Parent, Ancestor, Branch, Children, FirstChild, NextSibling, Nearest, Lowest, Holds}
 
 -- code and result
 pub record Reply : Type 0 where
@@ -38,4 +39,8 @@ reply_of w f (NextSibling a) = found (next_sibling f a)
 reply_of w f (Nearest a b) = found (nearest f a b)
 reply_of w f (Lowest a b) = gives (lowest w a (b - a))
 reply_of w f (Holds a b) = gives (cond (holds f a b) 1 0)
-reply_of w f (Refused c) = refused c
+
+-- the reply to what three numbers were decoded into
+abbrev pub reply_to : List Bool → Result Question ℕ → Reply
+reply_to w (Ok q) = reply_of w (forest_of w) q
+reply_to w (Err c) = refused c

@@ -1,10 +1,15 @@
-// A question: three numbers decoded into one case per kind with its checked places, or into a refusal.
+// A question: three numbers decoded into one case per kind with its checked places, or into the fault of the first check that fails.
 #![tactic(auto)]
 
-ghost use Rattle.std.specs.Prelude.{◌≡◌, [], ◌*◌, ◌≤◌, length};
-ghost use Rattle.word.specs.Bits.{word};
-ghost use Rattle.judge.specs.First.{first_of};
-ghost use Rattle.question.specs.Decode.{node, closing, boundaries, refusing, unless, decode_of};
+ghost use Rattle.std.specs.Prelude.{◌≡◌, []};
+ghost use Rattle.word.specs.Row.{word_of};
+ghost use Rattle.question.specs.Decode.{node, closing, boundaries, unless, decode_of};
+ghost use Rattle.question.specs.Fault.{numbered};
+
+pub use fault::Fault;
+use word::Row;
+
+mod fault;
 
 // "Each question is three unsigned 32-bit numbers: kind, a, b."
 #[derive(Clone, Copy)]
@@ -23,118 +28,78 @@ pub enum Question {
     Nearest(usize, usize),
     Lowest(usize, usize),
     Holds(usize, usize),
-    Refused(u32),
 }
 
-// "Each answer is code, result, entries read."
-#[derive(Clone, Copy)]
-pub struct Answer {
-    pub code: u32,
-    pub result: u32,
-    pub reads: u32,
-}
-
-fn place(a: u32) -> usize
-    ensures { result ≡ a }
+// The place of a node.
+#[tactic(auto, using(crate::proofs::Checks::node_checks))]
+fn node(row: &Row<'_>, a: u32) -> Result<usize, Fault>
+    ensures { numbered result ≡ unless (node (word_of row.now) a []) a }
 {
-    a as usize
-}
-
-// The number of the first check of a node that fails, or 0.
-fn node(bytes: &[u8], m: usize, a: usize) -> u32
-    requires { m ≤ 8 * length bytes.now }
-    ensures { result ≡ first_of (node (word bytes.now m) a []) }
-{
-    if m <= a {
-        return 12;
+    let place = a as usize;
+    if row.m <= place {
+        return Err(Fault::NoPlace);
     }
-    if word::opens(bytes, a) { 0 } else { 13 }
+    if word::opens(row.bytes, place) {
+        Ok(place)
+    } else {
+        Err(Fault::NotOpening)
+    }
 }
 
-fn closing(bytes: &[u8], m: usize, a: usize) -> u32
-    requires { m ≤ 8 * length bytes.now }
-    ensures { result ≡ first_of (closing (word bytes.now m) a) }
+// The place where a node closes.
+#[tactic(auto, using(crate::proofs::Checks::closing_checks))]
+fn closing(row: &Row<'_>, a: u32) -> Result<usize, Fault>
+    ensures { numbered result ≡ unless (closing (word_of row.now) a) a }
 {
-    if m <= a {
-        return 12;
+    let place = a as usize;
+    if row.m <= place {
+        return Err(Fault::NoPlace);
     }
-    if word::opens(bytes, a) { 14 } else { 0 }
+    if word::opens(row.bytes, place) {
+        Err(Fault::NotClosing)
+    } else {
+        Ok(place)
+    }
 }
 
-fn refusing(code: u32, q: Question) -> Question
-    ensures { result ≡ refusing code q }
+// Two boundaries, in order.
+#[tactic(auto, using(crate::proofs::Checks::boundary_checks))]
+fn boundaries(row: &Row<'_>, a: u32, b: u32) -> Result<(usize, usize), Fault>
+    ensures { numbered result ≡ unless (boundaries (word_of row.now) a b) (a, b) }
 {
-    if code == 0 {
-        return q;
+    let (from, to) = (a as usize, b as usize);
+    if row.m < from || row.m < to {
+        return Err(Fault::NoPlace);
     }
-    Question::Refused(code)
-}
-
-// A kind that asks of one node.
-fn of_node(bytes: &[u8], m: usize, a: usize, q: Question) -> Question
-    requires { m ≤ 8 * length bytes.now }
-    ensures { result ≡ unless (node (word bytes.now m) a []) q }
-{
-    refusing(node(bytes, m, a), q)
-}
-
-// A kind that asks of two: a wholly before b.
-fn of_nodes(bytes: &[u8], m: usize, a: usize, b: usize, q: Question) -> Question
-    requires { m ≤ 8 * length bytes.now }
-    ensures { result ≡ unless (node (word bytes.now m) a (node (word bytes.now m) b [])) q }
-{
-    let c = node(bytes, m, a);
-    if c != 0 {
-        return Question::Refused(c);
+    if to < from {
+        return Err(Fault::Reversed);
     }
-    of_node(bytes, m, b, q)
-}
-
-fn of_closing(bytes: &[u8], m: usize, a: usize) -> Question
-    requires { m ≤ 8 * length bytes.now }
-    ensures { result ≡ unless (closing (word bytes.now m) a) (Question.Opening a) }
-{
-    refusing(closing(bytes, m, a), Question::Opening(a))
-}
-
-fn of_boundaries(bytes: &[u8], m: usize, a: usize, b: usize) -> Question
-    ensures { result ≡ unless (boundaries (word bytes.now m) a b) (Question.Lowest a b) }
-{
-    if m < a {
-        return Question::Refused(12);
-    }
-    if m < b {
-        return Question::Refused(12);
-    }
-    if b < a {
-        return Question::Refused(15);
-    }
-    Question::Lowest(a, b)
+    Ok((from, to))
 }
 
 // "A question checks 11 to 16 in order, but argument a wholly (12 to 14) before b."
-#[tactic(auto, unfolding(crate::specs::Decode::decode_of))]
-pub fn decode(bytes: &[u8], m: usize, kind: u32, a: u32, b: u32) -> Question
-    requires { m ≤ 8 * length bytes.now }
-    ensures { result ≡ decode_of (word bytes.now m) kind a b }
+#[tactic(auto, using(crate::proofs::Checks::asked_checks), unfolding(crate::specs::Decode::decode_of))]
+pub fn decode(row: &Row<'_>, kind: u32, a: u32, b: u32) -> Result<Question, Fault>
+    ensures { numbered result ≡ decode_of (word_of row.now) kind a b }
 {
-    let p = place(a);
-    let q = place(b);
-    match kind {
-        1 => of_node(bytes, m, p, Question::Depth(p)),
-        2 => of_node(bytes, m, p, Question::Number(p)),
-        3 => Question::WithNumber(p),
-        4 => of_node(bytes, m, p, Question::Closing(p)),
-        5 => of_closing(bytes, m, p),
-        6 => of_node(bytes, m, p, Question::Parent(p)),
-        7 => of_node(bytes, m, p, Question::Ancestor(p, b)),
-        8 => of_node(bytes, m, p, Question::Branch(p)),
-        9 => of_node(bytes, m, p, Question::Children(p)),
-        10 => of_node(bytes, m, p, Question::FirstChild(p)),
-        11 => of_node(bytes, m, p, Question::NextSibling(p)),
-        12 => of_nodes(bytes, m, p, q, Question::Nearest(p, q)),
-        13 => of_boundaries(bytes, m, p, q),
-        14 => of_nodes(bytes, m, p, q, Question::Holds(p, q)),
-        _ => Question::Refused(11),
-    }
+    Ok(match kind {
+        1 => Question::Depth(node(row, a)?),
+        2 => Question::Number(node(row, a)?),
+        3 => Question::WithNumber(a as usize),
+        4 => Question::Closing(node(row, a)?),
+        5 => Question::Opening(closing(row, a)?),
+        6 => Question::Parent(node(row, a)?),
+        7 => Question::Ancestor(node(row, a)?, b),
+        8 => Question::Branch(node(row, a)?),
+        9 => Question::Children(node(row, a)?),
+        10 => Question::FirstChild(node(row, a)?),
+        11 => Question::NextSibling(node(row, a)?),
+        12 => Question::Nearest(node(row, a)?, node(row, b)?),
+        13 => {
+            let (from, to) = boundaries(row, a, b)?;
+            Question::Lowest(from, to)
+        }
+        14 => Question::Holds(node(row, a)?, node(row, b)?),
+        _ => return Err(Fault::UnknownKind),
+    })
 }

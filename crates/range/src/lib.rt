@@ -3,21 +3,15 @@
 #![tactic(auto)]
 
 ghost use Rattle.std.specs.Prelude.{◌≡◌, ◌<◌, ◌≤◌};
-ghost use Rattle.word.specs.Bits.{word};
+ghost use Rattle.word.specs.Row.{word_of};
 ghost use Rattle.index.specs.Shape.{height};
 ghost use Rattle.index.specs.Lent.{entry_at};
-ghost use Rattle.walk.specs.Lent.{Lent};
+ghost use Rattle.walk.specs.Walk.{told};
 ghost use Rattle.walk.specs.Range.{range};
-ghost use Rattle.range.specs.Span.{Joins, joined, told};
+ghost use Rattle.range.specs.Span.{Joins, joined};
 
 use summary::Summary;
-
-// The summary of the bits between two boundaries, and the entries read.
-#[derive(Clone, Copy)]
-pub struct Ranged {
-    pub summary: Summary,
-    pub reads: u32,
-}
+use walk::{Counted, Lineage};
 
 // The climb's state: the entries k and r, between which nothing is joined yet, what is joined on either side, and the reads.
 #[derive(Clone, Copy)]
@@ -30,54 +24,51 @@ pub struct Span {
 }
 
 impl Span {
-    // "read k+1 if k is even and r-1 if r is odd": what was read is joined to its side, "then halve both". Where nothing was read, the empty summary changes nothing.
+    // "read k+1 if k is even and r-1 if r is odd": what was read is joined to its side, "then halve both". Where nothing was read, the empty
+    // summary changes nothing.
     fn up(self, index: &[i32]) -> Span
         requires { Joins index.now self }
         ensures { result ≡ joined (entry_at index.now) self }
     {
-        let k = self.k;
-        let r = self.r;
-        let x = self.left;
-        let y = self.right;
-        let s = walk::after(index, k, self.reads);
-        let t = walk::before(index, r, s.reads);
-        let z = t.summary;
+        let s = walk::after(index, self.k, self.reads);
+        let t = walk::before(index, self.r, s.reads);
         Span {
-            k: k / 2,
-            r: r / 2,
-            left: x.join(s.summary),
-            right: z.join(y),
+            k: self.k / 2,
+            r: self.r / 2,
+            left: self.left.join(s.value),
+            right: t.value.join(self.right),
             reads: t.reads,
         }
     }
 }
 
-// "Within one block, scan. Else scan the ends; from leaves k (block a/256) and r (block (b-1)/256), while k/2 ≠ r/2"
-pub fn range(bytes: &[u8], m: usize, index: &[i32], l: usize, a: usize, b: usize) -> Ranged
-    requires { Lent bytes.now index.now m l × (a < b) × (b ≤ m) }
-    ensures { told result ≡ range (height m) (word bytes.now m) a b }
+// "Within one block, scan. Else scan the ends; from leaves k (block a/256) and r (block (b-1)/256), while k/2 ≠ r/2": the summary of the
+// bits between two boundaries, and the entries read.
+pub fn range(lineage: &Lineage<'_>, a: usize, b: usize) -> Counted<Summary>
+    requires { (a < b) × (b ≤ lineage.now.row.m) }
+    ensures { told result ≡ range (height lineage.now.row.m) (word_of lineage.now.row) a b }
 {
+    let bytes = lineage.row.bytes;
     let i = a / 256;
     let j = (b - 1) / 256;
     if i == j {
-        return Ranged {
-            summary: table::stretch(bytes, a, b),
+        return Counted {
+            value: table::stretch(bytes, a, b),
             reads: 0,
         };
     }
     let mut v = Span {
-        k: l + i,
-        r: l + j,
+        k: lineage.l + i,
+        r: lineage.l + j,
         left: table::stretch(bytes, a, 256 * (i + 1)),
         right: table::stretch(bytes, 256 * j, b),
         reads: 0,
     };
     while v.k / 2 != v.r / 2 {
-        v = v.up(index);
+        v = v.up(lineage.index);
     }
-    let x = v.left;
-    Ranged {
-        summary: x.join(v.right),
+    Counted {
+        value: v.left.join(v.right),
         reads: v.reads,
     }
 }

@@ -3,11 +3,13 @@ use mathlib.Core.Path.{◌≡◌, sym, ap, ◌∙◌}
 use mathlib.Core.List.{List}
 use Prim.Native.Nat.{ℕ, ◌*◌, ◌≤◌}
 use native.Mathlib.Omega.{arith}
-use borrow.Author.Tests.{eq-eqb, ne_eqb}
 use lib.ListN.{length, take, replicate, length-replicate}
 use lib.Seq.{length-sets, length-take-le}
+use Rattle.std.specs.Prelude.{Result, Ok, Err}
 use Rattle.fill.proofs.Fill.{sets_front}
 use Rattle.house.specs.declared.House.{House}
+use Rattle.house.specs.declared.fault.Fault.{Fault}
+use Rattle.house.specs.Faults.{number_of, told}
 use Rattle.house.specs.File.{Read, read_of}
 use Rattle.house.proofs.Whole.{Whole, whole}
 use Rattle.text.specs.Text.{Put, refusal}
@@ -21,20 +23,24 @@ word = replicate 8192 0
 abbrev numbers : List ℕ
 numbers = replicate 3072 0
 
-module _ (file : List ℕ) (h : House) (word' numbers' : List ℕ) (read : Read file word numbers h word' numbers') where
-  pub ends_refused : (out : List ℕ) (e : ℕ) (left : List ℕ) → (h.code ≡ 0 → ⊥) → Put (refusal h.code) out 0 e left → Put (output file) out 0 e left
+module _ (file : List ℕ) (word' numbers' : List ℕ) where
+  pub ends_refused : (r : Result House Fault) → Read file word numbers r word' numbers' → (out : List ℕ) (e : ℕ) (left : List ℕ) (fault : Fault) → r ≡ Err fault
+      → Put (refusal (number_of fault)) out 0 e left → Put (output file) out 0 e left
   unfolding output
-  ends_refused out e left z p = rw (← read.house_is, ne_eqb h.code 0 z) p
+  ends_refused r read out e left fault is p = rw (← read.house_is, is) p
 
-  module _ (ok : h.code ≡ 0) where
+  module _ (r : Result House Fault) (read : Read file word numbers r word' numbers') (h : House) (ok : r ≡ Ok h) where
     word_long : length word ≡ 8192
     word_long = length-replicate {A = ℕ} 8192 0
 
     numbers_long : length numbers ≡ 3072
     numbers_long = length-replicate {A = ℕ} 3072 0
 
-    all : Whole (record { house = h; bytes = (read_of file).bytes; numbers = (read_of file).numbers })
-    all = rw read.house_is (whole file (ap (λ (x : House). x.code) (sym read.house_is) ∙ ok))
+    house_is : (read_of file).house ≡ Ok h
+    house_is = sym read.house_is ∙ ap told ok
+
+    all : Whole h (read_of file)
+    all = whole file h house_is
 
     pub few_asked : h.asked ≤ 1024
     few_asked = all.few
@@ -56,4 +62,4 @@ module _ (file : List ℕ) (h : House) (word' numbers' : List ℕ) (read : Read 
     ends_printed out e left p =
         let b : take h.bytes word' ≡ (read_of file).bytes = ap (take h.bytes) read.word_is ∙ sets_front word (read_of file).bytes h.bytes all.bytes_count (omega (arith, all.bytes_count, all.exact, all.small, word_long)) in
         let n : take (3 * h.asked) numbers' ≡ (read_of file).numbers = ap (take (3 * h.asked)) read.numbers_are ∙ sets_front numbers (read_of file).numbers (3 * h.asked) all.numbers_count (omega (arith, all.numbers_count, all.few, numbers_long)) in
-        rw (← read.house_is, eq-eqb h.code 0 ok, ← b, ← n) p
+        rw (house_is, ← b, ← n) p

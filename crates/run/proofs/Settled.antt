@@ -4,25 +4,35 @@ use mathlib.Core.Bool.{Bool, true, false, cond}
 use mathlib.Core.List.{List}
 use Prim.Native.Nat.{ℕ, ◌≤◌, ◌<◌}
 use native.Mathlib.Omega.{arith}
-use borrow.Author.Tests.{lt-ltb, le-ltb, ltb-false, eqb-true}
-use lib.Dec.{eqb, ltb}
+use borrow.Author.Tests.{lt-ltb, le-ltb, ltb-false}
+use lib.Dec.{ltb}
 use lib.ListN.{length}
 use lib.Seq.{sets, length-sets}
 use Rattle.word.specs.Bits.{word}
 use Rattle.word.specs.Parse.{is_balanced}
+use Rattle.std.specs.Prelude.{Result}
+use Rattle.judge.specs.declared.refusal.Refusal.{Refusal}
 use Rattle.judge.specs.declared.Outcome.{Outcome}
+use Rattle.judge.specs.Refusal.{outcome}
+use Rattle.judge.proofs.Told.{outcome_apart}
 use Rattle.judge.specs.Judge.{outcome_of}
 use Rattle.batch.specs.Batch.{answers_of}
 use Rattle.batch.proofs.Answers.{answers_long}
+use Rattle.std.specs.Prelude.{Result, Ok, Err}
+use Rattle.house.specs.declared.House.{House}
 use Rattle.house.specs.File.{read_of}
 use Rattle.house.proofs.Whole.{whole}
 use Rattle.text.specs.Text.{Put}
 use Rattle.text.proofs.Lines.{lines_few, refusal_few}
-use Rattle.run.specs.Output.{refused, output, Ran}
+use Rattle.run.specs.Output.{refused, printed_as, output, Ran}
 
 -- no second outcome fits
-pub settled : (file held : List ℕ) (r r' : Outcome) (left left' : List ℕ) → Ran file held r left → Ran file held r' left' → (r ≡ r') × (left ≡ left')
-settled file held r r' left left' p q = (p.outcome_is ∙ sym q.outcome_is, p.output_is ∙ sym q.output_is)
+pub outcome_settled : (file held : List ℕ) (r r' : Outcome) (left left' : List ℕ) → Ran file held r left → Ran file held r' left' → (r ≡ r') × (left ≡ left')
+outcome_settled file held r r' left left' p q = (p.outcome_is ∙ sym q.outcome_is, p.output_is ∙ sym q.output_is)
+
+-- and no second result
+pub settled : (file held : List ℕ) (r r' : Result ℕ Refusal) (left left' : List ℕ) → Ran file held (outcome r) left → Ran file held (outcome r') left' → (r ≡ r') × (left ≡ left')
+settled file held r r' left left' p q = let s = outcome_settled file held (outcome r) (outcome r') left left' p q in (outcome_apart r r' s.0, s.1)
 
 -- the two ways it ends
 pub ends_short : (file held : List ℕ) → length held < 33792 → Ran file held (record { code = 36; value = 0 }) held
@@ -38,17 +48,18 @@ either : (t : Bool) (x y : List ℕ) (n : ℕ) → (t ≡ true → length x ≤ 
 either true x y n f g = f refl
 either false x y n f g = g refl
 
+printed_few : (file : List ℕ) (r : Result House ℕ) → (read_of file).house ≡ r → length (printed_as (read_of file).bytes (read_of file).numbers r) ≤ 33792
+printed_few file (Err n) e = omega (arith, refusal_few n)
+printed_few file (Ok h) e =
+    let g = read_of file in
+    let w = whole file h e in
+    either (is_balanced (word g.bytes h.m)) _ _ 33792
+    (λ b. omega (arith, lines_few (answers_of g.bytes h.m g.numbers), answers_long g.bytes h.m g.numbers (omega (arith, w.numbers_count)), w.numbers_count, w.few))
+    (λ b. omega (arith, refusal_few 6))
+
 pub output_few : (file : List ℕ) → length (output file) ≤ 33792
 unfolding output
-output_few file =
-    let g = read_of file in
-    either (eqb g.house.code 0) _ _ 33792
-    (λ z.
-    let w = whole file (eqb-true _ _ z) in
-    either (is_balanced (word g.bytes g.house.m)) _ _ 33792
-    (λ b. omega (arith, lines_few (answers_of g.bytes g.house.m g.numbers), answers_long g.bytes g.house.m g.numbers (omega (arith, w.numbers_count)), w.numbers_count, w.few))
-    (λ b. omega (arith, refusal_few 6)))
-    (λ z. omega (arith, refusal_few g.house.code))
+output_few file = printed_few file (read_of file).house refl
 
 -- the text lies within what was lent
 pub ran_inside : (file held : List ℕ) (r : Outcome) (left : List ℕ) → Ran file held r left → r.value ≤ length left

@@ -1,5 +1,5 @@
 -- What the program `lineage` prints for an input, from the input's bytes to the output's bytes, and the promise of `run`.
-use Rattle.std.specs.Prelude.{◌≡◌, cond, List, [], ◌∷◌, ℕ, eqb, ltb, length}
+use Rattle.std.specs.Prelude.{◌≡◌, cond, List, [], ◌∷◌, ℕ, ltb, length, Result, Ok, Err}
 use Rattle.std.proofs.lemmas.List.Edits.{sets}
 use Rattle.word.specs.Bits.{word}
 use Rattle.word.specs.Parse.{is_balanced}
@@ -7,6 +7,7 @@ use Rattle.judge.specs.declared.Outcome.{Outcome}
 use Rattle.judge.specs.First.{first_of}
 use Rattle.judge.specs.Judge.{outcome_of, written}
 use Rattle.batch.specs.Batch.{answers_of}
+use Rattle.house.specs.declared.House.{House}
 use Rattle.house.specs.File.{Gathered, read_of}
 use Rattle.text.specs.Text.{lines, refusal}
 
@@ -15,8 +16,12 @@ use Rattle.text.specs.Text.{lines, refusal}
 abbrev pub answered : List ℕ → ℕ → List ℕ → List ℕ
 answered bytes m numbers = cond (is_balanced (word bytes m)) (lines (answers_of bytes m numbers)) (refusal 6)
 
+abbrev pub printed_as : List ℕ → List ℕ → Result House ℕ → List ℕ
+printed_as bytes numbers (Ok house) = answered bytes house.m numbers
+printed_as bytes numbers (Err n) = refusal n
+
 abbrev pub printed : Gathered → List ℕ
-printed g = cond (eqb g.house.code 0) (answered g.bytes g.house.m g.numbers) (refusal g.house.code)
+printed g = printed_as g.bytes g.numbers g.house
 
 -- the whole output for a whole input
 unfoldable pub output : List ℕ → List ℕ

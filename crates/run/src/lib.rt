@@ -2,28 +2,36 @@
 // Word, questions, index and answers live in arrays sized for the largest file: 65,536 bits, 1,024 questions, 256 leaves.
 #![tactic(auto)]
 
-ghost use Rattle.std.specs.Prelude.{◌≤◌, length};
+ghost use Rattle.std.specs.Prelude.{◌≡◌, ◌%◌, ◌≤◌, length};
+ghost use Rattle.word.specs.Bits.{bytes_of};
+ghost use Rattle.judge.specs.Refusal.{outcome};
 ghost use Rattle.text.specs.Text.{Put};
 ghost use Rattle.run.specs.Output.{answered, output, Ran};
+ghost use Rattle.run.specs.Replied.{Replied};
 ghost use Rattle.run.specs.Sound.{Sound};
 
-use judge::Outcome;
+use judge::Refusal;
 
-// A file's word and questions, once the file is sound: the word's refusal, or a line for each answer.
+// The answers of a sound file's questions, over the front of `answers`, from an index built here.
+fn ask(bytes: &[u8], m: u32, numbers: &[u32], answers: &mut [u32]) -> Result<usize, Refusal>
+    requires { (m ≤ 65536) × (bytes_of m ≤ length bytes.now) × (length numbers.now % 3 ≡ 0) × (length numbers.now ≤ length answers.old) }
+    ensures { Replied bytes.now m numbers.now answers.old (outcome result) answers.new }
+{
+    let mut index = [0i32; 2048];
+    build::build(bytes, m, &mut index)?;
+    batch::batch(bytes, m, &index, numbers, answers)
+}
+
+// A file's word and questions, once the file is sound: a line for each answer, or the word's refusal.
 fn answer(bytes: &[u8], m: u32, numbers: &[u32], out: &mut [u8]) -> usize
     requires { Sound bytes.now m numbers.now out.old }
     ensures { Put (answered bytes.now m numbers.now) out.old 0 result out.new }
 {
-    let mut index = [0i32; 2048];
-    let built = build::build(bytes, m, &mut index);
-    let code = built.code;
-    if code != 0 {
-        return text::put_refusal(code, out);
-    }
     let mut answers = [0u32; 3072];
-    batch::batch(bytes, m, &index, numbers, &mut answers);
-    let n = numbers.len();
-    text::put_lines(&answers[..n], out)
+    match ask(bytes, m, numbers, &mut answers) {
+        Ok(n) => text::put_lines(&answers[..3 * n], out),
+        Err(refusal) => text::put_refusal(u32::from(refusal), out),
+    }
 }
 
 // The text of a file, over the front of the output; gives back how long it is.
@@ -33,24 +41,19 @@ fn print(file: &[u8], out: &mut [u8]) -> usize
 {
     let mut word = [0u8; 8192];
     let mut numbers = [0u32; 3072];
-    let h = house::read(file, &mut word, &mut numbers);
-    let code = h.code;
-    if code != 0 {
-        return text::put_refusal(code, out);
+    match house::read(file, &mut word, &mut numbers) {
+        Ok(h) => answer(&word[..h.bytes], h.m, &numbers[..3 * h.asked], out),
+        Err(fault) => text::put_refusal(u32::from(fault), out),
     }
-    let n = h.bytes;
-    let k = 3 * h.asked;
-    answer(&word[..n], h.m, &numbers[..k], out)
 }
 
-// Code 0 with the length of the text that was written over the front of `output`. Fewer than 33,792 bytes lent, which is 1,024
-// lines of three numbers of ten digits with a byte after each: code 36, and nothing is written.
-pub fn run(input: &[u8], output: &mut [u8]) -> Outcome
-    ensures { Ran input.now output.old result output.new }
+// The length of the text, which is written over the front of `output`. Fewer than 33,792 bytes lent, which is 1,024 lines of
+// three numbers of ten digits with a byte after each: refused, and nothing is written.
+pub fn run(input: &[u8], output: &mut [u8]) -> Result<usize, Refusal>
+    ensures { Ran input.now output.old (outcome result) output.new }
 {
     if output.len() < 33792 {
-        return Outcome { code: 36, value: 0 };
+        return Err(Refusal::NoRoomForText);
     }
-    let value = print(input, output);
-    Outcome { code: 0, value }
+    Ok(print(input, output))
 }

@@ -2,40 +2,22 @@
 #![tactic(auto)]
 
 ghost use Rattle.std.specs.Prelude.{◌≡◌};
-ghost use Rattle.word.specs.Bits.{word};
+ghost use Rattle.word.specs.Row.{word_of};
 ghost use Rattle.index.specs.Shape.{height};
 ghost use Rattle.index.specs.Lent.{is_index};
 ghost use Rattle.entry.specs.Known.{Lent};
-ghost use Rattle.same.specs.Equal.{equal};
 
-use summary::Summary;
-
-fn agree(x: Summary, y: Summary) -> bool
-    ensures { result ≡ equal x y }
-{
-    if x.total != y.total {
-        return false;
-    }
-    if x.least != y.least {
-        return false;
-    }
-    if x.greatest != y.greatest {
-        return false;
-    }
-    x.count == y.count
-}
+use word::Row;
 
 // Whether the first 8L numbers are the index. Each entry is held against those past it, which have been found right.
-pub fn same(bytes: &[u8], m: u32, index: &[i32]) -> bool
-    requires { Lent bytes.now m index.now }
-    ensures { result ≡ is_index (height m) (word bytes.now m) index.now }
+pub fn same(row: &Row<'_>, index: &[i32]) -> bool
+    requires { Lent row.now.bytes.now row.now.m index.now }
+    ensures { result ≡ is_index (height row.now.m) (word_of row.now) index.now }
 {
-    let l = index::leaves(m);
-    let mut k = 2 * l;
-    while 0 < k {
-        k -= 1;
-        let s = entry::own(bytes, m, l, index, k);
-        if !agree(index::read(index, k), s) {
+    let l = index::leaves(row.m);
+    for k in (0..2 * l).rev() {
+        let s = entry::own(row, l, index, k);
+        if index::read(index, k) != s {
             return false;
         }
     }

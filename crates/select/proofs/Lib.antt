@@ -1,4 +1,3 @@
 pub mod Descent
-pub mod Half
 pub mod Leaf
 pub mod Settled

@@ -1,39 +1,17 @@
 // The summary of a stretch of bits, four numbers by value, and how two neighbouring stretches join.
 #![tactic(auto)]
 
-ghost use Rattle.std.specs.Prelude.{◌≡◌, ◌+ℤ◌};
-ghost use Rattle.std.specs.Int.{w32};
-ghost use Rattle.std.proofs.Common.{SFits};
-ghost use Rattle.word.specs.Signed.{min_z, max_z};
+ghost use Rattle.std.specs.Prelude.{◌≡◌};
 ghost use Rattle.summary.specs.Join.{at, joined, join_of, empty_of};
 ghost use Rattle.summary.specs.Bound.{Bounded};
 
 // Depths are counted from the stretch's start, over the boundaries after it.
-#[derive(Clone, Copy)]
+#[derive(Clone, Copy, PartialEq, Eq)]
 pub struct Summary {
     pub total: i32,
     pub least: i32,
     pub greatest: i32,
     pub count: i32,
-}
-
-fn sum(a: i32, b: i32) -> i32
-    requires { SFits w32 (a +ℤ b) }
-    ensures { result ≡ a +ℤ b }
-{
-    a + b
-}
-
-fn smaller(a: i32, b: i32) -> i32
-    ensures { result ≡ min_z a b }
-{
-    if a <= b { a } else { b }
-}
-
-fn larger(a: i32, b: i32) -> i32
-    ensures { result ≡ max_z a b }
-{
-    if a <= b { b } else { a }
 }
 
 // A side's count, where that side reaches the joined least.
@@ -48,16 +26,16 @@ fn both(x: Summary, y: Summary) -> Summary
     requires { Bounded 4194304 x × Bounded 4194304 y }
     ensures { result ≡ joined x y }
 {
-    let low = sum(x.total, y.least);
-    let high = sum(x.total, y.greatest);
-    let least = smaller(x.least, low);
+    let low = x.total + y.least;
+    let high = x.total + y.greatest;
+    let least = x.least.min(low);
     let here = counted(x.least, least, x.count);
     let there = counted(low, least, y.count);
     Summary {
-        total: sum(x.total, y.total),
+        total: x.total + y.total,
         least,
-        greatest: larger(x.greatest, high),
-        count: sum(here, there),
+        greatest: x.greatest.max(high),
+        count: here + there,
     }
 }
 

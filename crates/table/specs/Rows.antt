@@ -20,13 +20,22 @@ abbrev pub number_at : ℕ → ℤ
 number_at k = part (k % 4) (row_of (k / 4))
 
 -- the rule's own list: f at each place from i on, n of them
-abbrev pub listed : (ℕ → ℤ) → ℕ → ℕ → List ℤ
+abbrev pub listed : {A : Type 0} → (ℕ → A) → ℕ → ℕ → List A
 listed f i zero = []
 listed f i (suc n) = f i ∷ listed f (suc i) n
 
 -- the whole table
 unfoldable pub table_of : List ℤ
 table_of = listed number_at 0 1024
+
+-- the whole table, row by row. Its numbers, in order, are `table_of` (proofs/Row.antt)
+unfoldable pub rows_of : List Summary
+rows_of = listed row_of 0 256
+
+-- the numbers of rows, four to a row
+abbrev pub numbers : List Summary → List ℤ
+numbers [] = []
+numbers (s ∷ rows) = s.total ∷ s.least ∷ s.greatest ∷ s.count ∷ numbers rows
 
 -- whether a byte starts at bit i and ends by bit `to`. "An unfinished last byte is taken bit by bit."
 unfoldable pub whole_at : ℕ → ℕ → Bool

@@ -1,28 +1,15 @@
-// The summary of a stretch of the lent bytes' bits: a whole byte at once through the table of rows.rt, what is left at either end bit by bit.
+// The summary of a stretch of the lent bytes' bits: a whole byte at once through the table of rows.rt, what is left at either
+// end bit by bit.
 #![tactic(auto)]
 
-ghost use Rattle.std.specs.Prelude.{◌≡◌, [], ◌∷◌, ◌-◌, ◌*◌, ◌≤◌, ◌<◌, length};
+ghost use Rattle.std.specs.Prelude.{◌≡◌, [], ◌∷◌, ℕ, ◌-◌, ◌*◌, ◌≤◌, ltb, length};
 ghost use Rattle.word.specs.Bits.{bits};
 ghost use Rattle.summary.specs.Stretch.{summary_of};
-ghost use Rattle.table.specs.Rows.{row_of, table_of, whole_at};
+ghost use Rattle.table.specs.Rows.{whole_at};
 
 use summary::Summary;
 
 mod rows;
-
-// A byte's row of the table.
-fn of_byte(rows: &[i32; 1024], b: u8) -> Summary
-    requires { rows.now ≡ table_of }
-    ensures { result ≡ row_of b }
-{
-    let at = 4 * b as usize;
-    Summary {
-        total: rows[at],
-        least: rows[at + 1],
-        greatest: rows[at + 2],
-        count: rows[at + 3],
-    }
-}
 
 // One parenthesis by itself.
 fn of_bit(opens: bool) -> Summary
@@ -37,37 +24,51 @@ fn of_bit(opens: bool) -> Summary
     }
 }
 
-// Whether a byte starts at bit i and ends by bit `to`.
-fn whole(i: usize, to: usize) -> bool
-    requires { (i < to) × (to ≤ 4194304) }
-    ensures { result ≡ whole_at i to }
-{
-    i % 8 == 0 && i + 8 <= to
-}
-
-fn along(rows: &[i32; 1024], bytes: &[u8], from: usize, to: usize) -> Summary
-    requires { (rows.now ≡ table_of) × (from ≤ to) × (to ≤ 8 * length bytes.now) × (to ≤ 4194304) }
+// The bits from `from` up to but not including `to`, one by one.
+fn bits_of(bytes: &[u8], from: usize, to: usize) -> Summary
+    requires { (from ≤ to) × (to ≤ 8 * length bytes.now) × (to ≤ 4194304) }
     ensures { result ≡ summary_of (bits bytes.now from (to - from)) }
 {
     let mut s = Summary::EMPTY;
-    let mut i = from;
-    while i < to {
-        if whole(i, to) {
-            s = s.join(of_byte(rows, bytes[i / 8]));
-            i += 8;
-        } else {
-            s = s.join(of_bit(word::opens(bytes, i)));
-            i += 1;
-        }
+    for i in from..to {
+        s = s.join(of_bit(word::opens(bytes, i)));
     }
     s
 }
 
-// The bits from `from` up to but not including `to`. No other bit counts.
+// The bytes from place `first` up to but not including `end`, each by its row of the table.
+fn bytes_of(bytes: &[u8], first: usize, end: usize) -> Summary
+    requires { (first ≤ end) × (end ≤ length bytes.now) × (8 * end ≤ 4194304) }
+    ensures { result ≡ summary_of (bits bytes.now (8 * first) (8 * (end - first))) }
+{
+    let rows = rows::table();
+    let mut s = Summary::EMPTY;
+    for b in &bytes[first..end] {
+        s = s.join(rows[*b as usize]);
+    }
+    s
+}
+
+// How many bytes end by bit `to`. "An unfinished last byte is taken bit by bit."
+fn whole(to: usize) -> usize
+    ensures { (q : ℕ) → whole_at (8 * q) to ≡ ltb q result }
+{
+    to / 8
+}
+
+// The bits from `from` up to but not including `to`: those before the first whole byte, the whole bytes, and those that are
+// left. No other bit counts.
+#[tactic(auto, using(crate::proofs::Part::ends_by))]
 pub fn stretch(bytes: &[u8], from: usize, to: usize) -> Summary
     requires { (from ≤ to) × (to ≤ 8 * length bytes.now) × (to ≤ 4194304) }
     ensures { result ≡ summary_of (bits bytes.now from (to - from)) }
 {
-    let rows = rows::table();
-    along(&rows, bytes, from, to)
+    let first = from.div_ceil(8);
+    let end = whole(to);
+    if end < first {
+        return bits_of(bytes, from, to);
+    }
+    bits_of(bytes, from, 8 * first)
+        .join(bytes_of(bytes, first, end))
+        .join(bits_of(bytes, 8 * end, to))
 }

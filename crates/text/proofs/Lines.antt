@@ -1,10 +1,9 @@
 -- Lines and refusals: how long they are at most, one line further, and document 01's output. Assumes nothing.
-use mathlib.Core.Path.{◌≡◌, refl, ap}
+use mathlib.Core.Path.{◌≡◌, refl}
 use mathlib.Core.List.{List, [], ◌∷◌, ◌++◌}
-use Prim.Native.Nat.{ℕ, ◌+◌, ◌*◌, ◌≤◌}
+use Prim.Native.Nat.{ℕ, ◌*◌, ◌≤◌}
 use native.Mathlib.Omega.{arith}
-use lib.ListN.{length, drop, get_or, length-append}
-use Rattle.fill.proofs.Fill.{drop_three}
+use lib.ListN.{length, get_or, length-append}
 use Rattle.text.specs.Text.{number, line, lines, refused, refusal}
 use Rattle.text.proofs.Numbers.{number_few}
 
@@ -30,8 +29,12 @@ pub refusal_few : (code : ℕ) → length (refusal code) ≤ 19
 refusal_few code = omega (arith, length-append refused (number code 10), number_few code 10)
 
 -- one line further
-pub lines_step : (q : List ℕ) (i : ℕ) → i + 3 ≤ length q → lines (drop i q) ≡ line (get_or q i 0) (get_or q (i + 1) 0) (get_or q (i + 2) 0) ++ lines (drop (i + 3) q)
-lines_step q i h = ap lines (drop_three q i 0 h)
+pub lines_step : (a rest : List ℕ) → length a ≡ 3 → lines (a ++ rest) ≡ line (get_or a 0 0) (get_or a 1 0) (get_or a 2 0) ++ lines rest
+lines_step [] rest h = absurd (omega arith)
+lines_step (code ∷ []) rest h = absurd (omega arith)
+lines_step (code ∷ (result ∷ [])) rest h = absurd (omega arith)
+lines_step (code ∷ (result ∷ (reads ∷ []))) rest h = refl
+lines_step (code ∷ (result ∷ (reads ∷ (n ∷ a)))) rest h = absurd (omega arith)
 
 -- "Output, whole": `0 3 0` and `16 0 0`
 shown : lines (0 ∷ 3 ∷ 0 ∷ 16 ∷ 0 ∷ 0 ∷ []) ≡ 48 ∷ 32 ∷ 51 ∷ 32 ∷ 48 ∷ 10 ∷ 49 ∷ 54 ∷ 32 ∷ 48 ∷ 32 ∷ 48 ∷ 10 ∷ []

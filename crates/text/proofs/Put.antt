@@ -1,13 +1,15 @@
 -- Writing text: one piece after another, the pieces still to come, and that a promise by `Put` leaves no choice.
 -- Assumes nothing.
 use mathlib.Core.Path.{◌≡◌, sym, ap, ap₂, ◌∙◌}
-use mathlib.Core.List.{List, [], ◌++◌}
+use mathlib.Core.List.{List, ◌++◌}
 use Prim.Native.Nat.{ℕ, ◌+◌, ◌≤◌}
 use native.Mathlib.Omega.{arith}
 use lib.ListN.{length, take, length-append}
 use lib.Seq.{sets, length-sets}
 use Rattle.fill.proofs.Fill.{sets_append, sets_front}
+use Rattle.text.specs.declared.Page.{Page}
 use Rattle.text.specs.Text.{Put}
+use Rattle.text.specs.Page.{Writes}
 
 -- one after the other
 pub put_append : (xs ys out mid left : List ℕ) (at p q : ℕ) → Put xs out at p mid → Put ys mid p q left → Put (xs ++ ys) out at q left
@@ -29,9 +31,6 @@ left_step all xs rest out₀ out next at p l q =
       end_goes = omega (arith, q.end_is, l.end_goes, length-append xs rest);
     }
 
-pub left_end : (all out₀ out : List ℕ) (at : ℕ) → Left all [] out₀ at out → Put all out₀ 0 at out
-left_end all out₀ out at l = record { left_is = l.out_goes; end_is = omega (arith, l.end_goes) }
-
 module _ (text out left : List ℕ) (at end : ℕ) (p : Put text out at end left) where
   -- the slice is as long as it was
   pub put_long : length left ≡ length out
@@ -44,3 +43,11 @@ module _ (text out left : List ℕ) (at end : ℕ) (p : Put text out at end left
 -- what is put from the front is what stands before the end
 pub put_front : (text out left : List ℕ) (end : ℕ) → Put text out 0 end left → length text ≤ length out → take end left ≡ text
 put_front text out left end p h = ap (take end) p.left_is ∙ sets_front out text end (omega (arith, p.end_is)) h
+
+-- one piece after another on a page
+pub writes_append : (xs ys : List ℕ) (a b c : Page) → Writes xs a b → Writes ys b c → Writes (xs ++ ys) a c
+writes_append xs ys a b c p q =
+    record { same = q.same ∙ p.same; put = put_append xs ys a.out.now b.out.now c.out.now a.at b.at c.at p.put q.put }
+
+pub writes_long : (text : List ℕ) (a b : Page) → Writes text a b → length b.out.now ≡ length a.out.now
+writes_long text a b w = put_long text a.out.now b.out.now a.at b.at w.put

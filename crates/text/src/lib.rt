@@ -1,55 +1,53 @@
 // The printed text: numbers in decimal, a line for each answer, or a refusal.
-// Every function here that writes says by `Put` what it wrote and where that ends.
 #![tactic(auto)]
 
 ghost use Rattle.std.specs.Prelude.{◌≡◌, ◌∷◌, [], ◌+◌, ◌*◌, ◌<◌, ◌≤◌, ◌%◌, length};
 ghost use Rattle.text.specs.Text.{Put, digits, number, line, lines, refusal};
+ghost use Rattle.text.specs.Page.{Writes};
 
-fn put_byte(b: u8, out: &mut [u8], at: usize) -> usize
-    requires { at < length out.old }
-    ensures { Put (b ∷ []) out.old at result out.new }
-{
-    out[at] = b;
-    at + 1
+// The bytes that are written over, and the place of the next.
+#[derive(Drop)]
+struct Page<'a> {
+    out: &'a mut [u8],
+    at: usize,
 }
 
-fn last_digit(n: u32) -> u8
-    ensures { result ≡ 48 + n % 10 }
-{
-    48 + (n % 10) as u8
-}
-
-// The digits before the last are those of n / 10, so the most significant one is written first.
-fn put_digits(n: u32, k: usize, out: &mut [u8], at: usize) -> usize
-    requires { at + k + 1 ≤ length out.old }
-    ensures { Put (digits k n) out.old at result out.new }
-{
-    let last = last_digit(n);
-    if k == 0 {
-        return put_byte(last, out, at);
+impl Page<'_> {
+    fn byte(&mut self, b: u8)
+        requires { self.old.at < length self.old.out.now }
+        ensures { Writes (b ∷ []) self.old self.new }
+    {
+        self.out[self.at] = b;
+        self.at += 1;
     }
-    if n < 10 {
-        return put_byte(last, out, at);
+
+    // The digits before the last are those of n / 10, so the most significant one is written first.
+    fn digits(&mut self, n: u32, k: usize)
+        requires { self.old.at + k + 1 ≤ length self.old.out.now }
+        ensures { Writes (digits k n) self.old self.new }
+    {
+        if k > 0 && n >= 10 {
+            self.digits(n / 10, k - 1);
+        }
+        self.byte(b'0' + (n % 10) as u8);
     }
-    let p = put_digits(n / 10, k - 1, out, at);
-    put_byte(last, out, p)
-}
 
-fn put_number(n: u32, after: u8, out: &mut [u8], at: usize) -> usize
-    requires { at + 11 ≤ length out.old }
-    ensures { Put (number n after) out.old at result out.new }
-{
-    let p = put_digits(n, 9, out, at);
-    put_byte(after, out, p)
-}
+    fn number(&mut self, n: u32, after: u8)
+        requires { self.old.at + 11 ≤ length self.old.out.now }
+        ensures { Writes (number n after) self.old self.new }
+    {
+        self.digits(n, 9);
+        self.byte(after);
+    }
 
-fn put_line(code: u32, res: u32, reads: u32, out: &mut [u8], at: usize) -> usize
-    requires { at + 33 ≤ length out.old }
-    ensures { Put (line code res reads) out.old at result out.new }
-{
-    let p = put_number(code, b' ', out, at);
-    let q = put_number(res, b' ', out, p);
-    put_number(reads, b'\n', out, q)
+    fn line(&mut self, code: u32, res: u32, reads: u32)
+        requires { self.old.at + 33 ≤ length self.old.out.now }
+        ensures { Writes (line code res reads) self.old self.new }
+    {
+        self.number(code, b' ');
+        self.number(res, b' ');
+        self.number(reads, b'\n');
+    }
 }
 
 // "prints code, result and reads for each question, single spaces, one line each"
@@ -57,13 +55,11 @@ pub fn put_lines(answers: &[u32], out: &mut [u8]) -> usize
     requires { (length answers.now % 3 ≡ 0) × (11 * length answers.now ≤ length out.old) }
     ensures { Put (lines answers.now) out.old 0 result out.new }
 {
-    let mut at = 0;
-    let mut i = 0;
-    while i < answers.len() {
-        at = put_line(answers[i], answers[i + 1], answers[i + 2], out, at);
-        i += 3;
+    let mut page = Page { out, at: 0 };
+    for a in answers.chunks_exact(3) {
+        page.line(a[0], a[1], a[2]);
     }
-    at
+    page.at
 }
 
 // "or only `refused` and the number"
@@ -72,5 +68,7 @@ pub fn put_refusal(code: u32, out: &mut [u8]) -> usize
     ensures { Put (refusal code) out.old 0 result out.new }
 {
     fill::copy(b"refused ", out, 0);
-    put_number(code, b'\n', out, 8)
+    let mut page = Page { out, at: 8 };
+    page.number(code, b'\n');
+    page.at
 }

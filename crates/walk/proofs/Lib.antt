@@ -5,6 +5,7 @@ pub mod Examples
 pub mod Final
 pub mod First
 pub mod Forward
+pub mod Held
 pub mod Hit
 pub mod Machine
 pub mod Options

@@ -1,57 +1,57 @@
 -- What the shared code computes, as the machine has it: each signed number is read back from its bits.
 -- Here those readings are taken off, over plain values.
-use mathlib.Core.Path.{◌≡◌, sym, ap, ◌∙◌}
-use mathlib.Core.Bool.{Bool, true, false, cond}
-use Prim.Native.Nat.{ℕ, ◌<◌}
-use lib.IntN.{ℤ, pos}
-use lib.Signed.{le_z, mag}
-use mir.Syntax.{w32, w64}
-use mir.Val.{SFits, to_z, of_z}
-use mir.Facts.{to_z-of_z}
-use Rattle.summary.specs.declared.Summary.{Summary}
-use lib.Dec.{eqb, eqb_refl, eqb→eq}
+use mathlib.Core.Path.{◌≡◌, refl, sym, ap, ◌∙◌}
+use mathlib.Core.Bool.{Bool, true, false}
+use Prim.Native.Nat.{ℕ, ◌≤◌, ◌<◌}
+use lib.IntN.{ℤ, pos, ◌+ℤ◌, ◌-ℤ◌, nat_abs}
+use lib.Signed.{mag}
+use mir.Syntax.{w64}
+use mir.Val.{Fits, to_z, of_z}
+use mir.Facts.{to_z-of_z, of_z-to_z}
 use Rattle.word.specs.Signed.{eq_z}
-use Rattle.word.proofs.Signed.{by_test, →eq, eq→, eq_z→, neq_z→, T_true, true_T, not_true}
+use Rattle.word.proofs.Signed.{zarith, →eq_z, eq_z→, →eq, not_true}
 use Rattle.summary.specs.Stretch.{step}
-use Rattle.summary.proofs.Machine.{rb, ok_back}
-use Rattle.walk.proofs.Signed64.{wb, widen}
-use Rattle.walk.specs.Walk.{walk, seen, hit}
-use Rattle.walk.specs.declared.Walk.{Walk}
-use Rattle.walk.specs.declared.Seen.{Seen}
+use Rattle.summary.proofs.Machine.{rb}
+use Rattle.walk.proofs.Amounts.{step_abs}
+use Rattle.walk.proofs.Signed64.{wb, less_fits, more_fits, small64}
 
 -- a field of a struct, read back
 pub back64 : (z : ℤ) → mag z < 9223372036854775808 → wb z ≡ z
 back64 z h = to_z-of_z {w = w64} (record { sfits = h })
 
--- `==` compares bits
-pub eqb_of_z64 : {a b : ℤ} → SFits w64 a → SFits w64 b → eqb (of_z w64 a) (of_z w64 b) ≡ eq_z a b
-eqb_of_z64 {a} {b} f g = by_test (eq_z a b)
-    (λ e. let q : of_z w64 a ≡ of_z w64 b = ap (of_z w64) (→eq a b (eq_z→ a b e)) in rw (e, q) (T_true _ (eqb_refl (of_z w64 b))))
-    (λ e. rw e (not_true _ (λ q. absurd (neq_z→ a b e (eq→ a b (sym (to_z-of_z f) ∙ ap (to_z w64) (eqb→eq (of_z w64 a) (of_z w64 b) (true_T q)) ∙ to_z-of_z g))))))
+pub small_back : (z : ℤ) → nat_abs z ≤ 1152921504606846976 → wb z ≡ z
+small_back z h = to_z-of_z (small64 z (omega zarith))
 
-module _ (s : Summary) (want : ℤ) where
-  pub empty_held : mag s.count < 2147483648 → eq_z (rb s.count) (pos 0) ≡ true → false ≡ hit s want
-  empty_held c e = rw (rw (ok_back s.count c) at e)
+-- ---- an amount after one bit: `r` is what the bit b adds, widened to 64 bits
+wide_step : (b : Bool) → wb (rb (step b)) ≡ step b
+wide_step true = refl
+wide_step false = refl
 
-  pub full_held : (l g : ℤ) (b : Bool) → mag s.count < 2147483648 → mag s.least < 2147483648 → mag s.greatest < 2147483648 → SFits w64 want
-      → eq_z (rb s.count) (pos 0) ≡ false → l ≡ rb s.least → g ≡ rb s.greatest
-      → b ≡ cond (le_z (wb l) (wb want)) (le_z (wb want) (wb g)) false → b ≡ hit s want
-  full_held l g b fc fl fg fw e p q r =
-      r ∙ rw (p, q, ok_back s.least fl, ok_back s.greatest fg, to_z-of_z (widen {z = s.least} (record { sfits = fl })), to_z-of_z (widen {z = s.greatest} (record { sfits = fg })), to_z-of_z fw, rw (ok_back s.count fc) at e)
+-- an amount's bits are all 0 exactly where it is 0
+pub zero_bits : (z t : ℤ) → wb z ≡ t → of_z w64 z ≡ 0 → eq_z t (pos 0) ≡ true
+zero_bits z t f e = rw (← f, e) (→eq_z (pos 0) (pos 0) refl)
 
-pub same_walk : {v : Walk} {k n : ℕ} {t : ℤ} → v.entry ≡ k → v.want ≡ t → v.reads ≡ n → v ≡ walk k t n
-same_walk p q r = λ i. record { entry = p i; want = q i; reads = r i }
+pub other_bits : (z t : ℤ) → z ≡ t → (of_z w64 z ≡ 0 → ⊥) → eq_z t (pos 0) ≡ false
+other_bits z t f n = not_true (eq_z t (pos 0)) (λ e. n (ap (of_z w64) (f ∙ →eq t (pos 0) (eq_z→ t (pos 0) e))))
 
--- the amount that `minus` or `plus` gives back: `op` takes the total off, or adds it
-module _ (op : ℤ → ℤ → ℤ) (r want total : ℤ) where
-  pub widened : SFits w64 want → SFits w32 total → r ≡ rb total → op (wb want) (wb r) ≡ op want total
-  widened f g e = rw (to_z-of_z f, e, to_z-of_z g, to_z-of_z (widen g))
+pub zero_wanted : {n : ℕ} → n ≡ 0 → eq_z (to_z w64 n) (pos 0) ≡ true
+zero_wanted e = rw e (→eq_z (pos 0) (pos 0) refl)
 
-  pub by_total : mag want < 9223372036854775808 → mag total < 2147483648 → mag r < 9223372036854775808 → r ≡ op (wb want) (rb total) → wb r ≡ op want total
-  by_total f g o e = back64 r o ∙ e ∙ rw (back64 want f, ok_back total g)
+pub other_wanted : {n : ℕ} → Fits w64 n → (n ≡ 0 → ⊥) → eq_z (to_z w64 n) (pos 0) ≡ false
+other_wanted {n} f h = not_true (eq_z (to_z w64 n) (pos 0)) (λ e. h (sym (of_z-to_z f) ∙ ap (of_z w64) (→eq (to_z w64 n) (pos 0) (eq_z→ (to_z w64 n) (pos 0) e))))
 
-  pub by_step : (b : Bool) → mag r < 9223372036854775808 → mag total < 2147483648 → r ≡ op want (rb total) → total ≡ step b → wb r ≡ op want (step b)
-  by_step b o g e s = back64 r o ∙ e ∙ rw (ok_back total g, s)
+module _ (t r s : ℤ) (b : Bool) (near : nat_abs t ≤ 2305843009213693952) (e : r ≡ rb s) (f : s ≡ step b) where
+  step_is : wb r ≡ step b
+  step_is = rw (e, f) (wide_step b)
 
-pub same_seen : {v : Seen} {s : Summary} {n : ℕ} → v.summary ≡ s → v.reads ≡ n → v ≡ seen s n
-same_seen p q = λ i. record { summary = p i; reads = q i }
+  pub less_step : wb (t -ℤ wb r) ≡ t -ℤ step b
+  less_step = rw step_is (to_z-of_z (less_fits t (step b) near (omega (zarith, step_abs b))))
+
+  pub more_step : wb (t +ℤ wb r) ≡ t +ℤ step b
+  more_step = rw step_is (to_z-of_z (more_fits t (step b) near (omega (zarith, step_abs b))))
+
+  pub less_zero : of_z w64 (t -ℤ wb r) ≡ 0 → eq_z (t -ℤ step b) (pos 0) ≡ true
+  less_zero = zero_bits (t -ℤ wb r) (t -ℤ step b) less_step
+
+  pub less_other : (of_z w64 (t -ℤ wb r) ≡ 0 → ⊥) → eq_z (t -ℤ step b) (pos 0) ≡ false
+  less_other = other_bits (t -ℤ wb r) (t -ℤ step b) (ap (λ (x : ℤ). t -ℤ x) step_is)

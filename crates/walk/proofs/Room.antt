@@ -1,13 +1,11 @@
 -- The two loops over a walk's state, whatever is done at each entry: the steps left are enough, and the numbers stay in range.
 -- `run s v` is what s steps from state v give; the invariant is that what is left of the run gives what the whole gives.
 use mathlib.Core.Path.{◌≡◌, refl, ◌∙◌}
-use mathlib.Core.Bool.{Bool, cond}
 use mathlib.Core.List.{List}
 use Prim.Native.Nat.{ℕ, zero, suc, ◌+◌, ◌-◌, ◌*◌, ◌/◌, ◌^◌, ◌≤◌, ◌<◌}
 use native.Mathlib.Omega.{arith}
 use native.Mathlib.Nat.{two-pow-succ, mul-le-mul_right}
 use lib.IntN.{ℤ, nat_abs}
-use Rattle.word.proofs.Signed.{by_test}
 use Rattle.index.proofs.Height.{height_reaches, leaves_few}
 use Rattle.index.proofs.Level.{twice}
 use Rattle.walk.specs.declared.Walk.{Walk}
@@ -16,6 +14,7 @@ use Rattle.walk.specs.declared.Climb.TheVariants.{Enter, Top}
 use Rattle.walk.specs.Walk.{walk}
 use Rattle.walk.specs.Lent.{Lent}
 use Rattle.walk.specs.Room.{Ready, Footing, Near, Climbed, Hold, Sunk}
+use Rattle.walk.specs.Way.{Up, Into, Down}
 
 -- ---- up
 pub record Rest (run : ℕ → Walk → Climb) (v w : Walk) (n : ℕ) : Type 0 where
@@ -30,17 +29,7 @@ pub record Climbing (run : ℕ → Walk → Climb) (v w : Walk) : Type 0 where
   pub count : w.reads + w.entry ≤ v.reads + v.entry
   pub left : (n : ℕ) → v.entry < 2 ^ suc n → Rest run v w n
 
--- one step up from w to u
-pub record Up (run : ℕ → Walk → Climb) (w u : Walk) : Type 0 where
-  pub half : u.entry ≡ w.entry / 2
-  pub near : nat_abs u.want ≤ nat_abs w.want + 2147483648
-  pub reads : u.reads ≤ w.reads + 1
-  pub on : (s : ℕ) → run s u ≡ run (suc s) w
-
 module _ (run : ℕ → Walk → Climb) (v : Walk) where
-  pub climb_start : 0 < v.entry → Climbing run v v
-  climb_start h = record { above = h; lower = omega arith; room = omega arith; count = omega arith; left = λ n l. record { rest = n; below = l; is = refl } }
-
   module _ (w : Walk) (c : Climbing run v w) where
     pub climbed_top : ((s : ℕ) → Top w ≡ run s w) → Climbed run v (Top w)
     climbed_top f = record { same = λ n l. let r = c.left n l in f r.rest ∙ r.is; near = tt }
@@ -54,11 +43,10 @@ module _ (run : ℕ → Walk → Climb) (v : Walk) where
           go zero b i = absurd (d (omega (arith, c.above)))
           go (suc s) b i = f s b i
 
-      -- the entry u is entered from w, with what is wanted there
-      pub climbed_enter : (u : Walk) → 0 < u.entry → u.entry ≤ w.entry + 1 → u.want ≡ w.want → u.reads ≤ w.reads + 1 → ((s : ℕ) → Enter u ≡ run (suc s) w) → Climbed run v (Enter u)
-      climbed_enter u a b e k f = record {
-        same = λ n l. inner n (c.left n l) (λ s b i. f s ∙ i);
-        near = (a, omega (arith, b, c.lower), rw e (omega (arith, c.room)), omega (arith, k, c.count, c.above));
+      pub climbed_enter : (u : Walk) → Into run w u → Climbed run v (Enter u)
+      climbed_enter u e = record {
+        same = λ n l. inner n (c.left n l) (λ s b i. e.is s ∙ i);
+        near = (e.above, omega (arith, e.beside, c.lower), rw e.want (omega (arith, c.room)), omega (arith, e.reads, c.count, c.above));
       }
 
       pub climb_on : (u : Walk) → Up run w u → Climbing run v u
@@ -83,24 +71,7 @@ pub record Sinking (run : ℕ → Walk → Walk) (l : ℕ) (v w : Walk) : Type 0
   pub count : w.reads + (l - w.entry) ≤ v.reads + l
   pub left : (n : ℕ) → l ≤ v.entry * 2 ^ n → Under run l v w n
 
--- one step down from w to u
-pub record Down (run : ℕ → Walk → Walk) (w u : Walk) : Type 0 where
-  pub child : (2 * w.entry ≤ u.entry) × (u.entry ≤ 2 * w.entry + 1)
-  pub near : nat_abs u.want ≤ nat_abs w.want + 2147483648
-  pub reads : u.reads ≤ w.reads + 1
-  pub on : (s : ℕ) → run s u ≡ run (suc s) w
-
--- into the child a with what is wanted, or past it into the child b
-pub one_down : (run : ℕ → Walk → Walk) (w u : Walk) (t : Bool) (a b : ℕ) (x : ℤ) → u ≡ cond t (walk a w.want (w.reads + 1)) (walk b x (w.reads + 1)) → (2 * w.entry ≤ a) × (a ≤ 2 * w.entry + 1)
-    → (2 * w.entry ≤ b) × (b ≤ 2 * w.entry + 1) → nat_abs x ≤ nat_abs w.want + 2147483648 → ((s : ℕ) → run s u ≡ run (suc s) w) → Down run w u
-one_down run w u t a b x e h k o on = by_test t
-    (λ y. record { child = rw (e, y) h; near = rw (e, y) (omega arith); reads = rw (e, y) (omega arith); on = on })
-    (λ y. record { child = rw (e, y) k; near = rw (e, y) o; reads = rw (e, y) (omega arith); on = on })
-
 module _ (run : ℕ → Walk → Walk) (l : ℕ) (v : Walk) where
-  pub sink_start : 0 < v.entry → v.entry ≤ 2 * l → Sinking run l v v
-  sink_start h b = record { above = h; low = b; room = omega arith; count = omega arith; left = λ n h. record { rest = n; enough = h; is = refl } }
-
   module _ (w : Walk) (c : Sinking run l v w) where
     pub sunk : l ≤ w.entry → ((s : ℕ) → w ≡ run s w) → Sunk run l v w
     sunk h f = record { same = λ n g. let r = c.left n g in f r.rest ∙ r.is; near = omega (arith, c.room); leaf = h; low = c.low }
@@ -131,19 +102,18 @@ module _ (bytes : List ℕ) (idx : List ℤ) (m l : ℕ) (v : Walk) (lent : Lent
   few : l ≤ 8192
   few = omega (arith, leaves_few m lent.small, lent.leaves)
 
-  pub footing : Footing idx v
+  pub footing : Footing l v
   footing = record {
     above = omega (arith, ready.leaf, ready.inside);
-    inside = omega (arith, ready.inside, lent.indexed.long, lent.leaves);
+    inside = ready.inside;
     room = omega (arith, ready.inside, ready.want, few);
     count = omega (arith, ready.inside, ready.reads, few);
   }
 
   module _ (u : Walk) (near : Near v (Enter u)) where
-    pub hold : Hold idx l u
+    pub hold : Hold l u
     hold = record {
       above = near.0;
-      inside = omega (arith, lent.indexed.long, lent.leaves);
       low = omega (arith, near.1, ready.inside);
       room = omega (arith, near.2, ready.want, ready.inside, few);
       count = omega (arith, near.3, ready.inside, ready.reads, few);

@@ -10,7 +10,10 @@ use lib.IntN.{ℤ}
 use Rattle.word.specs.Bits.{bits, word}
 use Rattle.word.proofs.Bits.{part_bits}
 use Rattle.index.specs.Shape.{block}
-use Rattle.walk.specs.declared.Scan.TheVariants.{Met, Left}
+use Rattle.std.specs.Prelude.{Result, Ok, Err}
+use Rattle.std.specs.Prelude as code
+use Rattle.std.specs.Result.{result_ok}
+use Rattle.walk.specs.Walk.{there}
 use Rattle.walk.specs.Scan.{ahead, behind, up_to, scanned, reached}
 
 module _ (bytes : List ℕ) (m : ℕ) where
@@ -33,14 +36,22 @@ module _ (bytes : List ℕ) (m : ℕ) where
   between_is a b l = part_is a (b - a) (b - a) (omega arith)
 
 -- what a scan in code says of what it scanned
-pub scanned_met : (o : Option ℕ) (u : ℤ) (q : ℕ) → scanned o u ≡ Met q → o ≡ some q
+pub scanned_met : (o : Option ℕ) (u : ℤ) (q : ℕ) → scanned o u ≡ Ok q → o ≡ some q
 scanned_met none u q e = let z : ◌≡◌ {A = ℕ} 0 1 = cc in absurd (omega arith)
 scanned_met (some p) u q e = cc
 
-pub scanned_left : (o : Option ℕ) (u v : ℤ) → scanned o u ≡ Left v → (o ≡ none) × (v ≡ u)
+pub scanned_left : (o : Option ℕ) (u v : ℤ) → scanned o u ≡ Err v → (o ≡ none) × (v ≡ u)
 scanned_left none u v e = (refl, cc)
 scanned_left (some p) u v e = let z : ◌≡◌ {A = ℕ} 0 1 = cc in absurd (omega arith)
 
 pub reached_is : (o : Option ℕ) (u : ℤ) → reached (scanned o u) ≡ o
 reached_is none u = refl
 reached_is (some q) u = refl
+
+-- what `ok` keeps of a scan
+pub ok_reached : (s : Result ℕ ℤ) {o : code.Option ℕ} → o ≡ result_ok s → there o ≡ reached s
+ok_reached s e = rw e (kept s)
+  where
+    kept : (s : Result ℕ ℤ) → there (result_ok s) ≡ reached s
+    kept (Ok q) = refl
+    kept (Err t) = refl

@@ -8,3 +8,4 @@ pub mod Room
 pub mod Scan
 pub mod Select
 pub mod Walk
+pub mod Way

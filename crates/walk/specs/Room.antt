@@ -1,6 +1,6 @@
 -- What a walk's climb and its way down ask and give, whatever is done at each entry: `run s v` is what the definition gives from state v in s
 -- steps. A total is below 2 ^ 31, and a step halves or doubles the entry: the steps are fewer than the entries, and the numbers stay in range.
-use Rattle.std.specs.Prelude.{◌≡◌, List, ℕ, suc, ◌+◌, ◌*◌, ◌/◌, ◌^◌, ◌≤◌, ◌<◌, length, ℤ, nat_abs}
+use Rattle.std.specs.Prelude.{◌≡◌, ℕ, suc, ◌+◌, ◌*◌, ◌^◌, ◌≤◌, ◌<◌, nat_abs}
 use Rattle.walk.specs.declared.Walk.{Walk}
 use Rattle.walk.specs.declared.Climb.{Climb}
 use Rattle.walk.specs.declared.Climb.TheVariants.{Enter, Top}
@@ -12,10 +12,14 @@ pub record Ready (l : ℕ) (v : Walk) : Type 0 where
   pub want : nat_abs v.want ≤ 17179869184
   pub reads : v.reads ≡ 0
 
--- where a climb begins: the entry and the one beside it are lent
-pub record Footing (idx : List ℤ) (v : Walk) : Type 0 where
+-- where a step is taken: the numbers are far from the ends of their ranges
+abbrev pub Steady : Walk → Type 0
+Steady w = (nat_abs w.want ≤ 1152921504606846976) × (w.reads ≤ 1073741824)
+
+-- where a climb begins: entries below 2l are lent
+pub record Footing (l : ℕ) (v : Walk) : Type 0 where
   pub above : 0 < v.entry
-  pub inside : 8 * (v.entry / 2) + 7 < length idx
+  pub inside : v.entry < 2 * l
   pub room : nat_abs v.want + 2147483648 * v.entry ≤ 1152921504606846976
   pub count : v.reads + v.entry ≤ 1073741824
 
@@ -29,10 +33,9 @@ pub record Climbed (run : ℕ → Walk → Climb) (v : Walk) (r : Climb) : Type 
   pub same : (n : ℕ) → v.entry < 2 ^ suc n → r ≡ run n v
   pub near : Near v r
 
--- where the way down begins: all 2l entries are lent
-pub record Hold (idx : List ℤ) (l : ℕ) (v : Walk) : Type 0 where
+-- where the way down begins
+pub record Hold (l : ℕ) (v : Walk) : Type 0 where
   pub above : 0 < v.entry
-  pub inside : 8 * l ≤ length idx
   pub low : v.entry ≤ 2 * l
   pub room : nat_abs v.want + 2147483648 * l ≤ 1152921504606846976
   pub count : v.reads + l ≤ 1073741824

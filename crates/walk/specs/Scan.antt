@@ -1,10 +1,8 @@
 -- The scans of bits, which read no entry: within the block where a walk starts, and of the leaf that it reaches.
-use Rattle.std.specs.Prelude.{Bool, true, false, cond, List, [], ◌∷◌, ℕ, zero, suc, ◌-◌, ◌*◌, ◌/◌, ◌%◌, take, drop, ℤ, ◌-ℤ◌}
+use Rattle.std.specs.Prelude.{Result, Ok, Err, Bool, true, false, cond, List, [], ◌∷◌, ℕ, zero, suc, ◌-◌, ◌*◌, ◌/◌, ◌%◌, take, drop, ℤ, ◌-ℤ◌}
 use Rattle.std.proofs.Math.Option.{Option, none, some}
 use Rattle.word.specs.Signed.{eq_z}
 use Rattle.summary.specs.Stretch.{step}
-use Rattle.walk.specs.declared.Scan.{Scan}
-use Rattle.walk.specs.declared.Scan.TheVariants.{Met, Left}
 use Rattle.walk.specs.Walk.{Reach}
 
 -- the first of two that is there
@@ -47,10 +45,10 @@ either (some q) r = (some q, 0)
 either none r = r
 
 -- a scan in code: the boundary met, or the amount still wanted
-abbrev pub scanned : Option ℕ → ℤ → Scan
-scanned (some q) t = Met q
-scanned none t = Left t
+abbrev pub scanned : Option ℕ → ℤ → Result ℕ ℤ
+scanned (some q) t = Ok q
+scanned none t = Err t
 
-abbrev pub reached : Scan → Option ℕ
-reached (Met q) = some q
-reached (Left t) = none
+abbrev pub reached : Result ℕ ℤ → Option ℕ
+reached (Ok q) = some q
+reached (Err t) = none

@@ -5,5 +5,6 @@ pub mod Forest
 pub mod Nodes
 pub mod Parse
 pub mod Questions
+pub mod Row
 pub mod Settles
 pub mod Signed

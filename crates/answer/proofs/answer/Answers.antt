@@ -1,15 +1,19 @@
 -- `answer` meets its contract: decoding has checked the places.
-use mathlib.Core.Path.{sym, ap, subst, ◌∙◌}
-use Rattle.word.specs.Bits.{word}
-use Rattle.question.specs.Places.{Sound}
-use Rattle.question.specs.Answer.{answer_to, answer_of}
+use mathlib.Core.Path.{sym, ap, ◌∙◌}
+use Rattle.word.specs.Row.{word_of}
+use Rattle.question.specs.Fault.{numbered}
 use Rattle.question.proofs.Sound.{decode_sound}
+use Rattle.question.proofs.Codes.{question_answer, refused_zeros}
 use Rattle.answer.proofs.answer.Goals as goal
 
 pub answer_to-requires : goal.answer_to-requires
 answer_to-requires c = let a = c.args in
-    (c.requires, subst (Sound (word a.bytes.now a.m)) (sym c.decode-q.ensures) (decode_sound (word a.bytes.now a.m) a.kind a.a a.b))
+    decode_sound (word_of a.of.now.lineage.row) a.kind a.a a.b (sym c.decode.ensures ∙ ap numbered c.in-Ok.is)
 
-pub returns : goal.returns
-unfolding answer_of
-returns c = let a = c.args in c.answer_to.ensures ∙ ap (answer_to (word a.bytes.now a.m)) c.decode-q.ensures
+pub returns-in-Ok : goal.returns-in-Ok
+returns-in-Ok c = let a = c.args in
+    c.answer_to.ensures ∙ sym (question_answer a.of.now.lineage.row.bytes.now a.of.now.lineage.row.m a.kind a.a a.b (sym c.decode.ensures ∙ ap numbered c.in-Ok.is))
+
+pub returns-in-Err : goal.returns-in-Err
+returns-in-Err c = let a = c.args in
+    c.refused.ensures ∙ sym (refused_zeros a.of.now.lineage.row.bytes.now a.of.now.lineage.row.m a.kind a.a a.b (sym c.decode.ensures ∙ ap numbered c.in-Err.is))

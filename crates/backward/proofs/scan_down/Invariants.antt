@@ -7,6 +7,3 @@ use Rattle.backward.proofs.scan_down.Given as goal
 
 abbrev pub invariant-loop-i : goal.invariant-loop-i
 invariant-loop-i l = (l.i ≤ l.to) × (nat_abs l.t ≤ 1152921504606846976 + (l.to - l.i)) × (scan_down l.bytes l.from (l.i - l.from) l.t ≡ scan_down l.bytes l.from (l.to - l.from) l.want)
-
-abbrev pub decreases-loop-i : goal.decreases-loop-i
-decreases-loop-i l = l.i - l.from

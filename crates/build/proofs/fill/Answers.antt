@@ -7,8 +7,8 @@ use Rattle.entry.proofs.Entries.{room}
 use Rattle.build.proofs.Filled.{fill_none, fill_known, fill_next, fill_all}
 use Rattle.build.proofs.fill.Goals as goal
 
-pub overflow_mul-k : goal.overflow_mul-k
-overflow_mul-k c = omega (arith, few_leaves _ _ c.requires.size c.leaves-l.ensures)
+pub overflow_step-k : goal.overflow_step-k
+overflow_step-k c = omega (arith, few_leaves _ _ c.requires.size c.leaves-l.ensures)
 
 pub loop-k-init : goal.loop-k-init
 loop-k-init c = fill_none _ _ _ _ c.requires c.leaves-l.ensures

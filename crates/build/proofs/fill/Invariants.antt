@@ -3,7 +3,4 @@ use Rattle.build.proofs.Filled.{Filled}
 use Rattle.build.proofs.fill.Given as goal
 
 abbrev pub invariant-loop-k : goal.invariant-loop-k
-invariant-loop-k l = Filled l.bytes l.m l.l l.initial.index l.index l.k
-
-abbrev pub decreases-loop-k : goal.decreases-loop-k
-decreases-loop-k l = l.k
+invariant-loop-k l = Filled l.row.bytes.now l.row.m l.l l.initial.index l.index l.k

@@ -9,7 +9,7 @@ unfolding empty_of
 returns-then-k-eq0 c = own_zero _ _ _ c.if-k-eq0.true
 
 pub block-requires : goal.block-requires
-block-requires c = let p = c.requires in (p.lent.size, p.lent.bytes_lent, omega (arith, p.inside, few _ _ _ _ _ p))
+block-requires c = let p = c.requires in (p.lent.size, omega (arith, p.inside, few _ _ _ _ _ p))
 
 pub returns-then-l-k : goal.returns-then-l-k
 returns-then-l-k c = own_leaf _ _ _ _ _ c.requires _ c.if-l-k.true c.block.ensures

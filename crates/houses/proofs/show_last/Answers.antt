@@ -5,7 +5,7 @@ use Rattle.run.proofs.Settled.{ran_inside}
 use Rattle.houses.proofs.show_last.Goals as goal
 
 pub slice_bounds-output-end : goal.slice_bounds-output-end
-slice_bounds-output-end g c = ran_inside _ _ _ _ c.run-ran.ensures
+slice_bounds-output-end g c = ran_inside _ _ _ _ c.in-Ok.ensures
 
 pub slice_bounds-last_line-end : goal.slice_bounds-last_line-end
-slice_bounds-last_line-end g c = sym (length-take-le _ _ (ran_inside _ _ _ _ c.run-ran.ensures))
+slice_bounds-last_line-end g c = sym (length-take-le _ _ (ran_inside _ _ _ _ c.in-Ok.ensures))

@@ -5,7 +5,7 @@ use Rattle.run.proofs.Settled.{ran_inside}
 use Rattle.lineage.proofs.main.Goals as goal
 
 pub slice_bounds-output-end : goal.slice_bounds-output-end
-slice_bounds-output-end c = ran_inside _ _ _ _ c.run-ran.ensures
+slice_bounds-output-end c = ran_inside _ _ _ _ c.in-Ok.ensures
 
 pub slice_bounds-write_all-end : goal.slice_bounds-write_all-end
-slice_bounds-write_all-end c = sym (length-take-le _ _ (ran_inside _ _ _ _ c.run-ran.ensures))
+slice_bounds-write_all-end c = sym (length-take-le _ _ (ran_inside _ _ _ _ c.in-Ok.ensures))

@@ -3,7 +3,4 @@ use Rattle.entry.specs.Known.{Known}
 use Rattle.same.proofs.same.Given as goal
 
 abbrev pub invariant-loop-k : goal.invariant-loop-k
-invariant-loop-k l = Known l.bytes l.m l.l l.index l.k
-
-abbrev pub decreases-loop-k : goal.decreases-loop-k
-decreases-loop-k l = l.k
+invariant-loop-k l = Known l.row.bytes.now l.row.m l.l l.index l.k

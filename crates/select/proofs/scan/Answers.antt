@@ -1,23 +1,18 @@
--- `scan` meets its contract.
-use mathlib.Core.Path.{sym, ◌∙◌}
+-- `scan` meets its contract: the chain gives the places from `from` on whose bit opens, and of those the one with that number.
+use mathlib.Core.Path.{refl, sym, ap, ◌∙◌}
 use Prim.Native.Nat.{◌-◌}
-use native.Mathlib.Omega.{arith}
-use Rattle.select.proofs.Leaf.{nth_end, nth_closes, nth_found, nth_opens}
+use Rattle.std.proofs.Common.{rules, tests}
+use Rattle.std.proofs.lemmas.Iterator.{YieldsList-from_range}
+use Rattle.std.proofs.lemmas.Iterator.Adapters.{option_map_id}
+use Rattle.std.proofs.lemmas.Iterator.Consumers.{nth_from_yields_List, YieldsList-from_filter, YieldsList-at}
+use Rattle.word.specs.Bits.{bit}
+use Rattle.walk.specs.Walk.{there}
+use Rattle.select.proofs.Leaf.{nth_is}
 use Rattle.select.proofs.scan.Goals as goal
-use Rattle.select.proofs.scan.Goals.{then-opens+else-rest-eq0, else-opens}
-
-pub returns-then-rest-eq0 : goal.returns-then-rest-eq0
-returns-then-rest-eq0 c = let s = c.args in
-    rw (sym (nth_found s.bytes.now c.loop-i.i s.to c.loop-i.rest (omega arith) (sym c.opens.ensures ∙ c.if-opens.true) c.if-rest-eq0.true) ∙ c.loop-i.invariant)
-
-pub loop-i-preserved : goal.loop-i-preserved
-loop-i-preserved c = let s = c.args in elim c.if-opens.branch [
-  | then-opens+else-rest-eq0 w ↦
-      rw w.rest-is (sym (nth_opens s.bytes.now c.loop-i.i s.to c.loop-i.rest (omega arith) (sym c.opens.ensures ∙ w.if-opens.true) (omega arith)) ∙ c.loop-i.invariant)
-  | else-opens w ↦
-      rw w.rest-is (sym (nth_closes s.bytes.now c.loop-i.i s.to c.loop-i.rest (omega arith) (sym c.opens.ensures ∙ w.if-opens.false)) ∙ c.loop-i.invariant)
-]
 
 pub returns : goal.returns
-returns c = let s = c.args in
-    rw (sym (nth_end s.bytes.now c.loop-i.i (s.to - c.loop-i.i) c.loop-i.rest (omega arith)) ∙ c.loop-i.invariant)
+returns c = let a = c.args in
+    ap there (sym (option_map_id c.nth.result)
+    ∙ nth_from_yields_List c.nth.result c.nth.new.self a.number c.nth.ensures.ran (YieldsList-from_filter _ (bit a.bytes.now)
+    (YieldsList-at c.filter.ensures.source (YieldsList-from_range a.from a.to (a.to - a.from) refl refl)) c.filter.ensures.closure (λ x r q k. search (rules, tests))))
+    ∙ nth_is a.bytes.now a.from (a.to - a.from) a.number

@@ -1,12 +1,11 @@
--- `whole` is the test that it names. Assumes nothing.
-use borrow.Author.Tests.{eq-eqb, ne_eqb}
+-- Byte q starts at bit 8q, so it is whole where it ends by bit `to`. Assumes nothing.
+use native.Mathlib.Omega.{arith}
+use borrow.Author.Tests.{leb-true, le-leb, ltb-true, lt-ltb}
+use Rattle.word.proofs.Tests.{same_test}
 use Rattle.table.specs.Rows.{whole_at}
+use Rattle.table.proofs.Part.{starts_at}
 use Rattle.table.proofs.whole.Goals as goal
 
-pub returns-then-i-eq0 : goal.returns-then-i-eq0
+pub returns : goal.returns
 unfolding whole_at
-returns-then-i-eq0 c = simp (eq-eqb _ _ c.if-i-eq0.true)
-
-pub returns-else-i-eq0 : goal.returns-else-i-eq0
-unfolding whole_at
-returns-else-i-eq0 c = simp (ne_eqb _ _ c.if-i-eq0.false)
+returns c q = rw starts_at (same_test _ _ (λ t. lt-ltb _ _ (omega (arith, leb-true _ _ t)), λ t. le-leb _ _ (omega (arith, ltb-true _ _ t))))

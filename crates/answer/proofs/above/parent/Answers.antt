@@ -7,15 +7,15 @@ use Rattle.answer.proofs.above.parent.Goals as goal
 
 pub backward-requires : goal.backward-requires
 backward-requires c =
-    let r = row c.requires.0 in
-    (c.requires.0.lent, omega (arith, node_in r c.requires.1), omega arith)
+    let r = row c.args.of.now in
+    (omega (arith, node_in r c.requires), omega arith)
 
 pub reached-requires : goal.reached-requires
 reached-requires c =
-    let r = row c.requires.0 in
-    (backward_near r _ _ (omega (arith, node_in r c.requires.1)) c.backward.ensures, omega arith)
+    let r = row c.args.of.now in
+    (backward_near r _ _ (omega (arith, node_in r c.requires)) c.backward.ensures, omega arith)
 
 pub returns : goal.returns
 returns c =
-    let r = row c.requires.0 in
-    c.reached.ensures ∙ parent_told r c.requires.1 c.backward.ensures
+    let r = row c.args.of.now in
+    c.reached.ensures ∙ parent_told r c.requires c.backward.ensures

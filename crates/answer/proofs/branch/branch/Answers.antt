@@ -5,13 +5,13 @@ use Rattle.answer.proofs.Walked.{row}
 use Rattle.answer.proofs.Told.{end_after, end_within, branch_told}
 use Rattle.answer.proofs.branch.branch.Goals as goal
 
-pub overflow_sub-e : goal.overflow_sub-e
-overflow_sub-e c = omega (arith, end_after (row c.requires.0) c.requires.1 c.end_of-e.ensures)
+pub overflow_sub-end : goal.overflow_sub-end
+overflow_sub-end c = omega (arith, end_after (row c.args.of.now) c.requires c.end_of-end.ensures)
 
 pub answered-requires : goal.answered-requires
 answered-requires c =
-    let r = row c.requires.0 in
-    omega (arith, end_within r c.requires.1 c.end_of-e.ensures)
+    let r = row c.args.of.now in
+    omega (arith, end_within r c.requires c.end_of-end.ensures)
 
 pub returns : goal.returns
-returns c = c.answered.ensures ∙ branch_told (row c.requires.0) c.requires.1 c.end_of-e.ensures
+returns c = c.answered.ensures ∙ branch_told (row c.args.of.now) c.requires c.end_of-end.ensures

@@ -7,16 +7,16 @@ use Rattle.answer.proofs.branch.children.Goals as goal
 
 pub overflow_add-a : goal.overflow_add-a
 overflow_add-a c =
-    let r = row c.requires.0 in
-    record { fits = omega (arith, next_in r c.requires.1) }
+    let r = row c.args.of.now in
+    record { fits = omega (arith, next_in r c.requires) }
 
 pub opens-requires : goal.opens-requires
 opens-requires c =
-    let r = row c.requires.0 in
-    omega (arith, next_in r c.requires.1)
+    let r = row c.args.of.now in
+    omega (arith, next_in r c.requires)
 
 pub returns : goal.returns
 returns c =
-    let r = row c.requires.0 in
+    let r = row c.args.of.now in
     c.answered.ensures
-    ∙ childless_told r c.requires.1 c.end_of-e.ensures c.opens.ensures c.if-opens.false
+    ∙ childless_told r c.requires c.end_of-end.ensures c.opens.ensures c.if-opens.false

@@ -3,19 +3,13 @@ use mathlib.Core.Path.{◌∙◌}
 use Rattle.answer.proofs.Walked.{row}
 use Rattle.answer.proofs.Told.{sibling_told, no_sibling, last_told}
 use Rattle.answer.proofs.branch.next_sibling.Goals as goal
-
-pub returns-then-m-q : goal.returns-then-m-q
-returns-then-m-q c =
-    c.missed.ensures ∙ last_told (row c.requires.0) c.requires.1 c.end_of-e.ensures c.if-m-q.true
+use Rattle.answer.proofs.branch.next_sibling.Goals.{else-end-of-via-then-end-of+else-opens, else-end-of-via-else-end-of}
 
 pub returns-then-opens : goal.returns-then-opens
-returns-then-opens c =
-    let r = row c.requires.0 in
-    c.answered.ensures ∙ sibling_told r c.requires.1 c.end_of-e.ensures c.if-m-q.false
-    c.opens.ensures c.if-opens.true
+returns-then-opens c = c.answered.ensures ∙ sibling_told (row c.args.of.now) c.requires c.end_of-end.ensures c.if-end-of.true c.opens.ensures c.if-opens.true
 
 pub returns : goal.returns
-returns c =
-    let r = row c.requires.0 in
-    c.missed-2.ensures ∙ no_sibling r c.requires.1 c.end_of-e.ensures c.if-m-q.false
-    c.opens.ensures c.if-opens.false
+returns c = c.missed.ensures ∙ elim c.else-end-of.branch [
+  | else-end-of-via-then-end-of+else-opens w ↦ no_sibling (row c.args.of.now) c.requires c.end_of-end.ensures w.if-end-of.true w.opens.ensures w.if-opens.false
+  | else-end-of-via-else-end-of w ↦ last_told (row c.args.of.now) c.requires c.end_of-end.ensures w.if-end-of.false
+]

@@ -2,7 +2,6 @@
 use Prim.Native.Nat.{◌+◌, ◌/◌}
 use mathlib.Core.Path.{ap, ◌∙◌}
 use native.Mathlib.Omega.{arith}
-use Rattle.word.specs.Signed.{P}
 use Rattle.question.specs.Reply.{gives}
 use Rattle.answer.specs.Ready.{replied}
 use Rattle.answer.proofs.Walked.{row, node_in}
@@ -10,30 +9,20 @@ use Rattle.answer.proofs.Told.{deep, number_told}
 use Rattle.answer.proofs.counts.number.Goals as goal
 
 pub prefix-d-requires : goal.prefix-d-requires
-prefix-d-requires c = (c.requires.0.lent, node_in (row c.requires.0) c.requires.1)
+prefix-d-requires c = node_in (row c.args.of.now) c.requires
 
-pub natural-requires : goal.natural-requires
-natural-requires c =
-    let r = row c.requires.0 in
-    let t = deep r c.requires.1 c.prefix-d.ensures in
-    rw t.back t.sign
+pub overflow_cast-d : goal.overflow_cast-d
+overflow_cast-d c = let t = deep (row c.args.of.now) c.requires c.prefix-d.ensures in rw t.back t.fits
 
 pub overflow_add-a : goal.overflow_add-a
-overflow_add-a c =
-    let r = row c.requires.0 in
-    let t = deep r c.requires.1 c.prefix-d.ensures in
-    record { fits = omega (arith, t.low, c.natural.ensures ∙ ap P t.back, node_in r c.requires.1) }
+overflow_add-a c = let t = deep (row c.args.of.now) c.requires c.prefix-d.ensures in
+    record { fits = omega (arith, t.low, t.cast, node_in (row c.args.of.now) c.requires) }
 
 pub answered-requires : goal.answered-requires
-answered-requires c =
-    let r = row c.requires.0 in
-    let t = deep r c.requires.1 c.prefix-d.ensures in
-    omega (arith, t.low, c.natural.ensures ∙ ap P t.back, node_in r c.requires.1)
+answered-requires c = let t = deep (row c.args.of.now) c.requires c.prefix-d.ensures in
+    omega (arith, t.low, t.cast, node_in (row c.args.of.now) c.requires)
 
 pub returns : goal.returns
-returns c =
-    let r = row c.requires.0 in
-    let t = deep r c.requires.1 c.prefix-d.ensures in
-    c.answered.ensures
-    ∙ ap (λ i. replied (gives ((c.args.a + i) / 2)) c.prefix-d.result.reads) (c.natural.ensures ∙ ap P t.back)
-    ∙ number_told r c.requires.1 c.prefix-d.ensures
+returns c = let t = deep (row c.args.of.now) c.requires c.prefix-d.ensures in
+    c.answered.ensures ∙ ap (λ i. replied (gives ((c.args.a + i) / 2)) c.prefix-d.result.reads) t.cast
+    ∙ number_told (row c.args.of.now) c.requires c.prefix-d.ensures

@@ -5,12 +5,11 @@ use Rattle.answer.proofs.Walked.{row, select_near}
 use Rattle.answer.proofs.Told.{past_told, number_at}
 use Rattle.answer.proofs.counts.with_number.Goals as goal
 
-pub returns-then-m-r : goal.returns-then-m-r
-returns-then-m-r c = c.missed.ensures ∙ past_told (row c.requires) c.if-m-r.true
+pub returns-then-of-r : goal.returns-then-of-r
+returns-then-of-r c = c.missed.ensures ∙ past_told (row c.args.of.now) c.if-of-r.true
 
 pub reached-requires : goal.reached-requires
-reached-requires c = (select_near (row c.requires) _ c.select.ensures, omega arith)
+reached-requires c = (select_near (row c.args.of.now) _ c.select.ensures, omega arith)
 
 pub returns : goal.returns
-returns c =
-    c.reached.ensures ∙ number_at (row c.requires) c.if-m-r.false c.select.ensures
+returns c = c.reached.ensures ∙ number_at (row c.args.of.now) c.if-of-r.false c.select.ensures

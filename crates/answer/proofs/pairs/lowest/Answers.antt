@@ -5,4 +5,4 @@ use Rattle.answer.proofs.Told.{lowest_same}
 use Rattle.answer.proofs.pairs.lowest.Goals as goal
 
 pub returns-then-a-b : goal.returns-then-a-b
-returns-then-a-b c = c.answered.ensures ∙ lowest_same (row c.requires.0) c.if-a-b.true
+returns-then-a-b c = c.answered.ensures ∙ lowest_same (row c.args.of.now) c.if-a-b.true

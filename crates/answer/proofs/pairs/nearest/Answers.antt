@@ -7,12 +7,12 @@ use Rattle.answer.proofs.pairs.nearest.Goals as goal
 
 pub answered-requires : goal.answered-requires
 answered-requires c =
-    let r = row c.requires.0 in
-    omega (arith, node_in r c.requires.1)
+    let r = row c.args.of.now in
+    omega (arith, node_in r c.requires.0)
 
 pub returns-then-a-b : goal.returns-then-a-b
-returns-then-a-b c = c.answered.ensures ∙ nearest_same (row c.requires.0) c.requires.1 c.if-a-b.true
+returns-then-a-b c = c.answered.ensures ∙ nearest_same (row c.args.of.now) c.requires.0 c.if-a-b.true
 
 pub returns : goal.returns
 returns c =
-    c.shared-2.ensures ∙ sym (nearest_turned (row c.requires.0) c.args.a c.args.b c.if-a-b.false)
+    c.shared-2.ensures ∙ sym (nearest_turned (row c.args.of.now) c.args.a c.args.b c.if-a-b.false)
