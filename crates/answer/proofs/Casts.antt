@@ -23,7 +23,8 @@ cast_fits x h k = (omega zarith, record { fits = omega (zarith, part_is x h) })
 -- "kind 7 from a by -b": b has 32 bits, so that -b fits 64
 module _ (b : ℕ) (f : Fits w32 b) where
   pub back_is : {x : ℤ} → x ≡ pos b → pos 0 -ℤ to_z w64 (of_z w64 x) ≡ neg_ℤ (pos b)
-  back_is {x} e = rw (e, to_z-of_z (small64 (pos b) (omega (zarith, f, abs_law (pos b))))) (omega (zarith, -law (pos 0) (pos b), P_neg (pos b), N_neg (pos b)))
+  back_is {x} e = rw (e, to_z-of_z (small64 (pos b) (omega (zarith, f, abs_law (pos b)))))
+      (omega (zarith, -law (pos 0) (pos b), P_neg (pos b), N_neg (pos b)))
 
   pub back_near : nat_abs (neg_ℤ (pos b)) ≤ 8589934592
   back_near = omega (zarith, f, abs_law (neg_ℤ (pos b)), P_neg (pos b), N_neg (pos b))

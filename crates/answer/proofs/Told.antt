@@ -22,13 +22,14 @@ use Rattle.index.specs.Shape.{height}
 use Rattle.std.specs.Prelude as code
 use Rattle.std.specs.Prelude.{None, Some}
 use Rattle.walk.specs.declared.Counted.{Counted}
-use Rattle.walk.specs.Walk.{Reach, there, said}
+use Rattle.walk.specs.Walk.{Reach, there}
 use Rattle.walk.specs.Forward.{forward}
 use Rattle.walk.specs.Backward.{backward}
 use Rattle.walk.specs.Prefix.{prefix}
 use Rattle.walk.specs.Select.{select}
 use Rattle.walk.specs.Range.{range}
-use Rattle.question.specs.declared.Question.TheVariants.{Depth, Number, WithNumber, Closing, Opening, Parent, Ancestor, Branch, Children, FirstChild, NextSibling, Nearest, Lowest, Holds}
+use Rattle.question.specs.declared.Question.TheVariants.{Depth, Number, WithNumber, Closing, Opening, Parent, Ancestor}
+use Rattle.question.specs.declared.Question.TheVariants.{Branch, Children, FirstChild, NextSibling, Nearest, Lowest, Holds}
 use Rattle.question.specs.Places.{IsNode, IsClosing}
 use Rattle.question.specs.Reply.{gives, refused, found}
 use Rattle.question.specs.Answer.{answer_to}
@@ -92,12 +93,14 @@ module _ {bytes : List ℕ} {m : ℕ} (r : Row bytes m) where
     end k = forward k w a (pos 0)
 
     -- the walk finds it, always
-    pub end_at : (x : Counted (code.Option ℕ)) → said x ≡ forward (height m) w a (pos 0) → Ends bytes m a (record { value = code.unwrap_or x.value 0; reads = x.reads })
-    end_at x e = go x.value x.reads e
-      where
-        go : (o : code.Option ℕ) (n : ℕ) → (there o, n) ≡ forward (height m) w a (pos 0) → Ends bytes m a (record { value = code.unwrap_or o 0; reads = n })
-        go None n e = absurd (by_walk.ends_some w r.balanced a node.opens (ap (λ (y : Reach). y.0) (to end (none, n) e)))
-        go (Some q) n e = record { past = ap (λ (y : Reach). y.0) (sym e); reads = ap (λ (y : Reach). y.1) (sym e) }
+    pub ends_found : (o : code.Option ℕ) (n : ℕ) → (there o, n) ≡ end (height m) → code.IsSome o
+    ends_found None n e = absurd (by_walk.ends_some w r.balanced a node.opens (ap (λ (y : Reach). y.0) (to end (none, n) e)))
+    ends_found (Some q) n e = refl
+
+    -- and what it found is the branch's end
+    pub end_at : {o : code.Option ℕ} {n q : ℕ} → (there o, n) ≡ end (height m) → o ≡ Some q →
+        Ends bytes m a (record { value = q; reads = n })
+    end_at e is = record { past = ap (λ (y : Reach). y.0) (sym e) ∙ ap there is; reads = ap (λ (y : Reach). y.1) (sym e) }
 
     module _ {e : Counted ℕ} (ends : Ends bytes m a e) where
       past : (end (height (length w))).0 ≡ some e.value
@@ -128,10 +131,12 @@ module _ {bytes : List ℕ} {m : ℕ} (r : Row bytes m) where
       sibling b d = ap (λ t. replied (found (cond t (some e.value) none)) e.reads) (sym d)
           ∙ by_walk.next_sibling_is w r.balanced a node.opens e.value e.reads past reads
 
-      pub sibling_told : {b : Bool} → e.value < m → b ≡ bit bytes e.value → b ≡ true → replied (gives e.value) e.reads ≡ answer_to w (NextSibling a)
+      pub sibling_told : {b : Bool} → e.value < m → b ≡ bit bytes e.value → b ≡ true →
+          replied (gives e.value) e.reads ≡ answer_to w (NextSibling a)
       sibling_told {b} l d t = sibling true (bit_is e.value l b false d ∙ t)
 
-      pub no_sibling : {b : Bool} → e.value < m → b ≡ bit bytes e.value → b ≡ false → replied (refused 16) e.reads ≡ answer_to w (NextSibling a)
+      pub no_sibling : {b : Bool} → e.value < m → b ≡ bit bytes e.value → b ≡ false →
+          replied (refused 16) e.reads ≡ answer_to w (NextSibling a)
       no_sibling {b} l d t = sibling false (bit_is e.value l b false d ∙ t)
 
       pub last_told : m ≤ e.value → replied (refused 16) e.reads ≡ answer_to w (NextSibling a)
@@ -196,12 +201,14 @@ module _ {bytes : List ℕ} {m : ℕ} (r : Row bytes m) where
     pub parent_told : {x : Reach} → x ≡ backward (height m) w a (negsuc 0) → reached_of x 0 ≡ answer_to w (Parent a)
     parent_told {x} e = alone x ∙ by_walk.parent_is w r.balanced a node.opens x (to (λ k. backward k w a (negsuc 0)) x e)
 
-    pub ancestor_told : (b : ℕ) → (b ≡ 0 → ⊥) → {x : Reach} → x ≡ backward (height m) w a (neg_ℤ (pos b)) → reached_of x 0 ≡ answer_to w (Ancestor a b)
+    pub ancestor_told : (b : ℕ) → (b ≡ 0 → ⊥) → {x : Reach} → x ≡ backward (height m) w a (neg_ℤ (pos b)) →
+        reached_of x 0 ≡ answer_to w (Ancestor a b)
     ancestor_told b z {x} e = alone x
         ∙ by_walk.ancestor_is w r.balanced a node.opens b z x (to (λ k. backward k w a (neg_ℤ (pos b))) x e)
 
   -- kind 5
-  pub opening_told : {a : ℕ} → IsClosing (word bytes m) a → {x : Reach} → x ≡ backward (height m) w (a + 1) (pos 0) → reached_of x 0 ≡ answer_to w (Opening a)
+  pub opening_told : {a : ℕ} → IsClosing (word bytes m) a → {x : Reach} → x ≡ backward (height m) w (a + 1) (pos 0) →
+      reached_of x 0 ≡ answer_to w (Opening a)
   opening_told {a} c {x} e = alone x
       ∙ by_walk.opening_is w r.balanced a c.below c.closes x (to (λ k. backward k w (suc a) (pos 0)) x (rw add-one at e))
 
@@ -223,7 +230,8 @@ module _ {bytes : List ℕ} {m : ℕ} (r : Row bytes m) where
     pub lowest_here : le_z (pos 0) s.least ≡ true → replied (gives a) n ≡ answer_to w (Lowest a b)
     lowest_here t = by_range.lowest_self_is w r.balanced a b l inside s n ranged t
 
-    pub lowest_told : le_z (pos 0) s.least ≡ false → {x : Reach} → x ≡ forward (height m) w a s.least → reached_of x n ≡ answer_to w (Lowest a b)
+    pub lowest_told : le_z (pos 0) s.least ≡ false → {x : Reach} → x ≡ forward (height m) w a s.least →
+        reached_of x n ≡ answer_to w (Lowest a b)
     lowest_told t {x} d = by_range.lowest_is w r.balanced a b l inside s n ranged t x (to (λ k. forward k w a s.least) x d)
 
     module _ (na : IsNode (word bytes m) a) (nb : IsNode (word bytes m) b) where

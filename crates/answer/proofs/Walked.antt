@@ -142,4 +142,7 @@ module _ {bytes : List ℕ} {m : ℕ} (r : Row bytes m) where
       rw z (within_abs 2097152 (depth_of (take p w)) (widen (depth_within (take p w))))
     where
       widen : Within (length (take p w)) (depth_of (take p w)) → Within 2097152 (depth_of (take p w))
-      widen i = record { above = omega (arith, r.small, i.above, length-take p w, long); below = omega (arith, r.small, i.below, length-take p w, long) }
+      widen i = record {
+        above = omega (arith, r.small, i.above, length-take p w, long);
+        below = omega (arith, r.small, i.below, length-take p w, long);
+      }

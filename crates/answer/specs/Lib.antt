@@ -1,2 +1,3 @@
+pub mod Its
 pub mod Ready
 pub mod Told

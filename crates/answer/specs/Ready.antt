@@ -1,4 +1,4 @@
--- What an answer stands on, a balanced word with its own index lent beside it; and what the small steps give.
+-- What the laws of answers ask of a row, and what the small steps give.
 use Rattle.std.specs.Prelude.{◌≡◌, true, List, ℕ, ◌+◌, ◌*◌, ◌≤◌, pos, length}
 use Rattle.std.proofs.Math.Option.{some}
 use Rattle.word.specs.Bits.{word}
@@ -10,6 +10,7 @@ use Rattle.walk.specs.declared.Counted.{Counted}
 use Rattle.question.specs.Answer.{Answer}
 use Rattle.question.specs.Reply.{Reply, found}
 
+-- a balanced row, where the bits alone are asked
 pub record Row (bytes : List ℕ) (m : ℕ) : Type 0 where
   pub small : m ≤ 2097152
   pub enough : m ≤ 8 * length bytes

@@ -20,23 +20,13 @@ pub(crate) fn answered(res: usize, reads: u32) -> Answer
     }
 }
 
-// "16 gives result 0 and the walk's reads"
-pub(crate) fn missed(reads: u32) -> Answer
-    ensures { told result ≡ replied (refused 16) reads }
-{
-    Counted {
-        value: Err(Fault::NoNode),
-        reads,
-    }
-}
-
-// "Codes 11 to 15 give result 0 and reads 0"
-pub(crate) fn refused(fault: Fault) -> Answer
-    ensures { told result ≡ replied (refused (number_of fault)) 0 }
+// "Codes 11 to 15 give result 0 and reads 0", "16 gives result 0 and the walk's reads"
+pub(crate) fn refused(fault: Fault, reads: u32) -> Answer
+    ensures { told result ≡ replied (refused (number_of fault)) reads }
 {
     Counted {
         value: Err(fault),
-        reads: 0,
+        reads,
     }
 }
 
@@ -48,6 +38,6 @@ pub(crate) fn reached(found: Counted<Option<usize>>, before: u32) -> Answer
     let reads = before + found.reads;
     match found.value {
         Some(p) => answered(p, reads),
-        None => missed(reads),
+        None => refused(Fault::NoNode, reads),
     }
 }

@@ -2,9 +2,9 @@
 #![tactic(auto)]
 
 ghost use Rattle.std.specs.Prelude.{◌≡◌};
-ghost use Rattle.word.specs.Row.{word_of};
 ghost use Rattle.question.specs.Places.{Sound};
 ghost use Rattle.question.specs.Answer.{answer_to, answer_of};
+ghost use Rattle.answer.specs.Its.{its_word};
 ghost use Rattle.answer.specs.Told.{told};
 
 pub use balanced::Balanced;
@@ -21,10 +21,11 @@ mod pairs;
 // "Each answer is code, result, entries read.": the result or what refuses it, and the reads.
 pub type Answer = Counted<Result<u32, Fault>>;
 
-// The places that the question carries were checked.
+// The places that the question carries were checked. A place and that it stands for a node stay beside each other: a struct of both
+// would be made in each arm, to be opened at once.
 fn answer_to(of: &Balanced<'_>, q: Question) -> Answer
-    requires { Sound (word_of of.now.lineage.row) q }
-    ensures { told result ≡ answer_to (word_of of.now.lineage.row) q }
+    requires { Sound (its_word of.now) q }
+    ensures { told result ≡ answer_to (its_word of.now) q }
 {
     match q {
         Question::Depth(a) => counts::depth(of, a),
@@ -51,6 +52,6 @@ pub fn answer(of: &Balanced<'_>, kind: u32, a: u32, b: u32) -> Answer
     match question::decode(&of.lineage.row, kind, a, b) {
         Ok(q) => answer_to(of, q),
         // "Codes 11 to 15 give result 0 and reads 0"
-        Err(fault) => give::refused(fault),
+        Err(fault) => give::refused(fault, 0),
     }
 }

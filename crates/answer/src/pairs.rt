@@ -1,26 +1,19 @@
 // Kinds 12 and 13: the range between two places, and the walk by its least.
 ghost use Rattle.std.specs.Prelude.{◌≡◌, ◌≤◌, ◌<◌, pos, ◌-ℤ◌};
 ghost use Rattle.std.specs.Int.Signed.{le_z};
-ghost use Rattle.word.specs.Row.{word_of};
 ghost use Rattle.question.specs.Places.{IsNode};
 ghost use Rattle.question.specs.Answer.{answer_to};
+ghost use Rattle.answer.specs.Its.{its_word};
 ghost use Rattle.answer.specs.Told.{told};
 
 use crate::{Answer, Balanced, give};
 use question::Question;
 
-// Whether all boundaries of a range lie above its start.
-fn all_above(least: i32) -> bool
-    ensures { result ≡ le_z (pos 1) least }
+// Whether all boundaries of a range lie so far above its start: by 1, above it; by 0, not below it.
+fn above<const BY: i32>(least: i32) -> bool
+    ensures { result ≡ le_z BY least }
 {
-    1 <= least
-}
-
-// Whether none lies below it.
-fn none_below(least: i32) -> bool
-    ensures { result ≡ le_z (pos 0) least }
-{
-    0 <= least
+    BY <= least
 }
 
 // "the range's least less 1"
@@ -33,11 +26,11 @@ fn less_one(least: i32) -> i64
 // Kind 12 of an earlier and a later node. Where the depth stays above the earlier one's, that one is the answer; else "12 goes back by the
 // range's least less 1".
 fn shared(of: &Balanced<'_>, a: usize, b: usize) -> Answer
-    requires { IsNode (word_of of.now.lineage.row) a × IsNode (word_of of.now.lineage.row) b × (a < b) }
-    ensures { told result ≡ answer_to (word_of of.now.lineage.row) (Question.Nearest a b) }
+    requires { IsNode (its_word of.now) a × IsNode (its_word of.now) b × (a < b) }
+    ensures { told result ≡ answer_to (its_word of.now) (Question.Nearest a b) }
 {
     let r = range::range(&of.lineage, a, b);
-    if all_above(r.value.least) {
+    if above::<1>(r.value.least) {
         return give::answered(a, r.reads);
     }
     let back = less_one(r.value.least);
@@ -46,8 +39,8 @@ fn shared(of: &Balanced<'_>, a: usize, b: usize) -> Answer
 
 // Kind 12.
 pub(crate) fn nearest(of: &Balanced<'_>, a: usize, b: usize) -> Answer
-    requires { IsNode (word_of of.now.lineage.row) a × IsNode (word_of of.now.lineage.row) b }
-    ensures { told result ≡ answer_to (word_of of.now.lineage.row) (Question.Nearest a b) }
+    requires { IsNode (its_word of.now) a × IsNode (its_word of.now) b }
+    ensures { told result ≡ answer_to (its_word of.now) (Question.Nearest a b) }
 {
     if a == b {
         return give::answered(a, 0);
@@ -61,10 +54,10 @@ pub(crate) fn nearest(of: &Balanced<'_>, a: usize, b: usize) -> Answer
 // Kind 13 of two different boundaries. Where no later boundary is lower, a is the answer; else "13 forward by that least".
 fn lower(of: &Balanced<'_>, a: usize, b: usize) -> Answer
     requires { (a < b) × (b ≤ of.now.lineage.row.m) }
-    ensures { told result ≡ answer_to (word_of of.now.lineage.row) (Question.Lowest a b) }
+    ensures { told result ≡ answer_to (its_word of.now) (Question.Lowest a b) }
 {
     let r = range::range(&of.lineage, a, b);
-    if none_below(r.value.least) {
+    if above::<0>(r.value.least) {
         return give::answered(a, r.reads);
     }
     let by = i64::from(r.value.least);
@@ -74,7 +67,7 @@ fn lower(of: &Balanced<'_>, a: usize, b: usize) -> Answer
 // Kind 13.
 pub(crate) fn lowest(of: &Balanced<'_>, a: usize, b: usize) -> Answer
     requires { (a ≤ b) × (b ≤ of.now.lineage.row.m) }
-    ensures { told result ≡ answer_to (word_of of.now.lineage.row) (Question.Lowest a b) }
+    ensures { told result ≡ answer_to (its_word of.now) (Question.Lowest a b) }
 {
     if a == b {
         return give::answered(a, 0);

@@ -47,7 +47,8 @@ module _ (e : ℕ → Summary) (w : Walk) (d : 1 < w.entry) (x : Counted Summary
     is = λ s. at_hit e w.entry w.want w.reads d s (rw q at h);
   })
 
-  pub past : hit_back x.value w.want ≡ false → SFits w32 x.value.total → (u : Walk) → u ≡ walk (w.entry / 2) (w.want +ℤ x.value.total) x.reads → Up (climb_of e) w u
+  pub past : hit_back x.value w.want ≡ false → SFits w32 x.value.total → (u : Walk)
+      → u ≡ walk (w.entry / 2) (w.want +ℤ x.value.total) x.reads → Up (climb_of e) w u
   past h o u r = rw (r, q) (record {
     half = refl;
     near = total_on w.want (before_of e w.entry w.reads).value.total (rw q at o.sfits);

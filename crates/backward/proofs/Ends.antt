@@ -27,7 +27,8 @@ use Rattle.walk.proofs.Stretches.{block_is, behind_is, up_to_is, scanned_met, sc
 use Rattle.backward.proofs.Scan.{one_more}
 
 -- a stretch x of the word that is n bits from bit i, and u wanted from its start
-module _ (bytes : List ℕ) (i n : ℕ) (x : List Bool) (t u : ℤ) (s : Result ℕ ℤ) (e : x ≡ bits bytes i n) (d : t +ℤ depth_of x ≡ u) (r : s ≡ scan_down bytes i n t) where
+module _ (bytes : List ℕ) (i n : ℕ) (x : List Bool) (t u : ℤ) (s : Result ℕ ℤ) (e : x ≡ bits bytes i n) (d : t +ℤ depth_of x ≡ u)
+    (r : s ≡ scan_down bytes i n t) where
   scan_is : s ≡ scanned (final i x u) u
   unfolding scan_down
   scan_is = r ∙ rw (← d, e)
@@ -39,12 +40,15 @@ module _ (bytes : List ℕ) (i n : ℕ) (x : List Bool) (t u : ℤ) (s : Result 
   left v y = scanned_left (final i x u) u v (sym scan_is ∙ y)
 
 -- ---- the leaf where the walk stands
-pub leaf_is : (bytes : List ℕ) (m l : ℕ) (w : Walk) (to : ℕ) (s : Result ℕ ℤ) → to ≡ min (256 * (w.entry - l + 1)) m → s ≡ scan_down bytes (256 * (w.entry - l)) (to - 256 * (w.entry - l)) w.want
+pub leaf_is : (bytes : List ℕ) (m l : ℕ) (w : Walk) (to : ℕ) (s : Result ℕ ℤ) → to ≡ min (256 * (w.entry - l + 1)) m
+    → s ≡ scan_down bytes (256 * (w.entry - l)) (to - 256 * (w.entry - l)) w.want
     → (reached s, w.reads) ≡ leaf_back l (word bytes m) w
-leaf_is bytes m l w to s e r = ap (λ (x : Option ℕ). (x, w.reads)) (ap reached (scan_is bytes _ _ _ w.want _ s (block_is bytes m (w.entry - l) to e) refl r) ∙ reached_is _ _)
+leaf_is bytes m l w to s e r = ap (λ (x : Option ℕ). (x, w.reads))
+    (ap reached (scan_is bytes _ _ _ w.want _ s (block_is bytes m (w.entry - l) to e) refl r) ∙ reached_is _ _)
 
 -- ---- the first block: the bits before bit p, where t is wanted from boundary p + 1 and `u` from boundary p
-module _ (bytes : List ℕ) (m p : ℕ) (t u : ℤ) (s : Result ℕ ℤ) (h : p < m) (d : u ≡ t +ℤ step (bit bytes p)) (r : s ≡ scan_down bytes (256 * (p / 256)) (p - 256 * (p / 256)) u) where
+module _ (bytes : List ℕ) (m p : ℕ) (t u : ℤ) (s : Result ℕ ℤ) (h : p < m) (d : u ≡ t +ℤ step (bit bytes p))
+    (r : s ≡ scan_down bytes (256 * (p / 256)) (p - 256 * (p / 256)) u) where
   from_start_lem : u +ℤ depth_of (behind (word bytes m) p) ≡ from_start (word bytes m) p t
   from_start_lem =
       let b : ℕ = 256 * (p / 256) in
@@ -55,7 +59,8 @@ module _ (bytes : List ℕ) (m p : ℕ) (t u : ℤ) (s : Result ℕ ℤ) (h : p 
   pub near_met : (q : ℕ) → s ≡ Ok q → final (256 * (p / 256)) (behind (word bytes m) p) (from_start (word bytes m) p t) ≡ some q
   near_met = met bytes _ _ _ u _ s (behind_is bytes m p h) from_start_lem r
 
-  pub near_left : (v : ℤ) → s ≡ Err v → (final (256 * (p / 256)) (behind (word bytes m) p) (from_start (word bytes m) p t) ≡ none) × (v ≡ from_start (word bytes m) p t)
+  pub near_left : (v : ℤ) → s ≡ Err v → (final (256 * (p / 256)) (behind (word bytes m) p) (from_start (word bytes m) p t) ≡ none)
+      × (v ≡ from_start (word bytes m) p t)
   near_left = left bytes _ _ _ u _ s (behind_is bytes m p h) from_start_lem r
 
 -- ---- entry 1: the amount wanted, as the machine tests it
@@ -67,5 +72,6 @@ module _ (z : ℤ) (n : ℕ) where
   elsewhere h = rw (other_bits z _ refl h)
 
 -- ---- an entry's test, with its total added
-pub tested : (s : Summary) (t r : ℤ) (b : Bool) → SFits w64 t → nat_abs t ≤ 2305843009213693952 → SFits w32 s.total → r ≡ rb s.total → b ≡ hit s (wb (wb t +ℤ wb r)) → b ≡ hit_back s t
+pub tested : (s : Summary) (t r : ℤ) (b : Bool) → SFits w64 t → nat_abs t ≤ 2305843009213693952 → SFits w32 s.total → r ≡ rb s.total
+    → b ≡ hit s (wb (wb t +ℤ wb r)) → b ≡ hit_back s t
 tested s t r b f near g e h = h ∙ rw (to_z-of_z f, e, to_z-of_z g, to_z-of_z (widen g), to_z-of_z (more_fits t s.total near (fits_abs g)))

@@ -34,20 +34,34 @@ module _ (bytes : List ℕ) (i m n : ℕ) (t : ℤ) (e : n ≡ suc m) where
   back = let z : suc m - m ≡ 1 = omega zarith in rw (drop_bits bytes i (suc m) m, z)
 
   depth : depth_of (bits bytes i (suc m)) ≡ depth_of (bits bytes i m) +ℤ step (bit bytes (i + m))
-  depth = ap depth_of (sym (take-append-drop m (bits bytes i (suc m)))) ∙ depth_append (take m (bits bytes i (suc m))) (drop m (bits bytes i (suc m))) ∙ rw (front, back, one_there (bit bytes (i + m)) [] (step (bit bytes (i + m))) (eq_z_refl (step (bit bytes (i + m)))))
+  depth = ap depth_of (sym (take-append-drop m (bits bytes i (suc m))))
+      ∙ depth_append (take m (bits bytes i (suc m))) (drop m (bits bytes i (suc m)))
+      ∙ rw (front, back, one_there (bit bytes (i + m)) [] (step (bit bytes (i + m))) (eq_z_refl (step (bit bytes (i + m)))))
 
   pub one_more : t +ℤ depth_of (bits bytes i (suc m)) ≡ (t +ℤ step (bit bytes (i + m))) +ℤ depth_of (bits bytes i m)
-  one_more = omega (zarith, depth, +law t (depth_of (bits bytes i (suc m))), +law t (step (bit bytes (i + m))), +law (t +ℤ step (bit bytes (i + m))) (depth_of (bits bytes i m)), +law (depth_of (bits bytes i m)) (step (bit bytes (i + m))))
+  one_more = omega (
+    zarith,
+    depth,
+    +law t (depth_of (bits bytes i (suc m))),
+    +law t (step (bit bytes (i + m))),
+    +law (t +ℤ step (bit bytes (i + m))) (depth_of (bits bytes i m)),
+    +law (depth_of (bits bytes i m)) (step (bit bytes (i + m))),
+  )
 
   over : ((t +ℤ step (bit bytes (i + m))) +ℤ depth_of (bits bytes i m)) -ℤ depth_of (bits bytes i m) ≡ t +ℤ step (bit bytes (i + m))
-  over = omega (zarith, +law (t +ℤ step (bit bytes (i + m))) (depth_of (bits bytes i m)), -law ((t +ℤ step (bit bytes (i + m))) +ℤ depth_of (bits bytes i m)) (depth_of (bits bytes i m)))
+  over = omega (
+    zarith,
+    +law (t +ℤ step (bit bytes (i + m))) (depth_of (bits bytes i m)),
+    -law ((t +ℤ step (bit bytes (i + m))) +ℤ depth_of (bits bytes i m)) (depth_of (bits bytes i m)),
+  )
 
   test : (x : Bool) → eq_z t (pos 0) ≡ x → eq_z (step (bit bytes (i + m))) (t +ℤ step (bit bytes (i + m))) ≡ x
   test true h = →eq_z _ _ (omega (zarith, +law t (step (bit bytes (i + m)))))
   test false h = →neq_z _ _ (omega (zarith, +law t (step (bit bytes (i + m)))))
 
   turn : (x : Bool) → eq_z t (pos 0) ≡ x → final i (bits bytes i (suc m)) (t +ℤ depth_of (bits bytes i (suc m)))
-      ≡ or_else (or_else none (cond x (some (suc (i + m))) none)) (final i (bits bytes i m) ((t +ℤ step (bit bytes (i + m))) +ℤ depth_of (bits bytes i m)))
+      ≡ or_else (or_else none (cond x (some (suc (i + m))) none))
+      (final i (bits bytes i m) ((t +ℤ step (bit bytes (i + m))) +ℤ depth_of (bits bytes i m)))
   turn x h = final_split m i (bits bytes i (suc m)) (t +ℤ depth_of (bits bytes i (suc m)))
       ∙ rw (front, back, one_more, over, final_cons (i + m) (bit bytes (i + m)) [] (t +ℤ step (bit bytes (i + m))), final_nil, test x h)
 
@@ -62,7 +76,8 @@ module _ (bytes : List ℕ) (i m n : ℕ) (t : ℤ) (e : n ≡ suc m) where
 -- one turn of the code's loop, at boundary i: `r` is what bit i - 1 adds, widened, and `wb (t +ℤ wb r)` is wanted from boundary i - 1
 module _ (bytes : List ℕ) (from i : ℕ) (t : ℤ) (l : from < i) where
   pub turn_met : eq_z t (pos 0) ≡ true → Ok (i - 1 + 1) ≡ scan_down bytes from (i - from) t
-  turn_met z = ap Ok (let e : i - 1 + 1 ≡ from + (i - from) = omega zarith in e) ∙ sym (scan_met bytes from (i - from - 1) (i - from) t (omega zarith) z)
+  turn_met z = ap Ok (let e : i - 1 + 1 ≡ from + (i - from) = omega zarith in e)
+      ∙ sym (scan_met bytes from (i - from - 1) (i - from) t (omega zarith) z)
 
   module _ (r s : ℤ) (b : Bool) (near : nat_abs t ≤ 2305843009213693952) (e : r ≡ rb s) (f : s ≡ step b) (g : b ≡ bit bytes (i - 1)) where
     after : wb (t +ℤ wb r) ≡ t +ℤ step (bit bytes (i - 1))
@@ -70,7 +85,8 @@ module _ (bytes : List ℕ) (from i : ℕ) (t : ℤ) (l : from < i) where
 
     pub turn_next : eq_z t (pos 0) ≡ false → scan_down bytes from (i - 1 - from) (wb (t +ℤ wb r)) ≡ scan_down bytes from (i - from) t
     turn_next z = let e : i - 1 ≡ from + (i - 1 - from) = omega zarith in
-        rw after (ap (λ (j : ℕ). scan_down bytes from (i - 1 - from) (t +ℤ step (bit bytes j))) e ∙ sym (scan_next bytes from (i - 1 - from) (i - from) t (omega zarith) z))
+        rw after (ap (λ (j : ℕ). scan_down bytes from (i - 1 - from) (t +ℤ step (bit bytes j))) e
+        ∙ sym (scan_next bytes from (i - 1 - from) (i - from) t (omega zarith) z))
 
     pub turn_near : (m n : ℕ) → nat_abs t ≤ m → m + 1 ≡ n → nat_abs (wb (t +ℤ wb r)) ≤ n
     turn_near m n h e = rw (after, ← e) (more_near t (step (bit bytes (i - 1))) m 1 h (step_abs (bit bytes (i - 1))))

@@ -12,5 +12,6 @@ use Rattle.walk.specs.Walk.{said}
 use Rattle.walk.specs.Backward.{backward}
 use Rattle.walk.proofs.Settled.{said_settled}
 
-pub backward_settled : (bytes : List ℕ) (m p : ℕ) (want : ℤ) → Settles {A = Counted (code.Option ℕ)} (λ r. said r ≡ backward (height m) (word bytes m) p want)
+pub backward_settled : (bytes : List ℕ) (m p : ℕ) (want : ℤ)
+    → Settles {A = Counted (code.Option ℕ)} (λ r. said r ≡ backward (height m) (word bytes m) p want)
 backward_settled bytes m p want = said_settled (backward (height m) (word bytes m) p want)

@@ -21,16 +21,24 @@ module _ (e : ℕ → Summary) (l k : ℕ) (t : ℤ) (n s : ℕ) (b : k < l) whe
   unfolding descend_back
   below_hit y = rw (lt-leb l k b, y)
 
-  below_miss : hit_back (e (2 * k + 1)) t ≡ false → descend_back e l s (2 * k) (t +ℤ (e (2 * k + 1)).total) (n + 1) ≡ descend_back e l (suc s) k t n
+  below_miss : hit_back (e (2 * k + 1)) t ≡ false → descend_back e l s (2 * k) (t +ℤ (e (2 * k + 1)).total) (n + 1)
+      ≡ descend_back e l (suc s) k t n
   unfolding descend_back
   below_miss y = rw (lt-leb l k b, y)
 
 -- x is what was read of the right child of entry w
-module _ (e : ℕ → Summary) (l : ℕ) (w : Walk) (b : w.entry < l) (x : Counted Summary) (q : x ≡ seen (e (2 * w.entry + 1)) (w.reads + 1)) where
+module _ (e : ℕ → Summary) (l : ℕ) (w : Walk) (b : w.entry < l) (x : Counted Summary)
+    (q : x ≡ seen (e (2 * w.entry + 1)) (w.reads + 1)) where
   pub right : hit_back x.value w.want ≡ true → (u : Walk) → u ≡ walk (2 * w.entry + 1) w.want x.reads → Down (descent_of e l) w u
-  right h u r = rw (r, q) (record { child = omega zarith; near = omega zarith; reads = omega zarith; on = λ s. below_hit e l w.entry w.want w.reads s b (rw q at h) })
+  right h u r = rw (r, q) (record {
+    child = omega zarith;
+    near = omega zarith;
+    reads = omega zarith;
+    on = λ s. below_hit e l w.entry w.want w.reads s b (rw q at h);
+  })
 
-  pub left : hit_back x.value w.want ≡ false → SFits w32 x.value.total → (u : Walk) → u ≡ walk (2 * w.entry) (w.want +ℤ x.value.total) x.reads → Down (descent_of e l) w u
+  pub left : hit_back x.value w.want ≡ false → SFits w32 x.value.total → (u : Walk)
+      → u ≡ walk (2 * w.entry) (w.want +ℤ x.value.total) x.reads → Down (descent_of e l) w u
   left h o u r = rw (r, q) (record {
     child = omega zarith;
     near = total_on w.want (e (2 * w.entry + 1)).total (rw q at o.sfits);

@@ -18,7 +18,8 @@ use Rattle.batch.specs.Batch.{three, answers_of}
 module _ (bytes : List ℕ) (m : ℕ) where
   -- one question further
   pub answers_step : (at : ℕ) (q : List ℕ) → at + 3 ≤ length q
-      → answers_of bytes m (drop at q) ≡ three (answer_of bytes m (get_or q at 0) (get_or q (at + 1) 0) (get_or q (at + 2) 0)) ++ answers_of bytes m (drop (at + 3) q)
+      → answers_of bytes m (drop at q) ≡ three (answer_of bytes m (get_or q at 0) (get_or q (at + 1) 0) (get_or q (at + 2) 0))
+      ++ answers_of bytes m (drop (at + 3) q)
   answers_step at q h = ap (answers_of bytes m) (drop_three q at 0 h)
 
   -- as many numbers as were asked
@@ -34,11 +35,13 @@ module _ (bytes : List ℕ) (m : ℕ) where
   answers_drop (suc k) [] h = absurd (omega arith)
   answers_drop (suc k) (x ∷ []) h = absurd (omega arith)
   answers_drop (suc k) (x ∷ (a ∷ [])) h = absurd (omega arith)
-  answers_drop (suc k) (x ∷ (a ∷ (b ∷ q))) h = let e : 3 * suc k ≡ suc (suc (suc (3 * k))) = omega arith in rw e (answers_drop k q (omega arith))
+  answers_drop (suc k) (x ∷ (a ∷ (b ∷ q))) h =
+      let e : 3 * suc k ≡ suc (suc (suc (3 * k))) = omega arith in rw e (answers_drop k q (omega arith))
 
   -- "every question has its own answer": the three numbers at question k's place are the answer to the three asked there
   pub own_answer : (k : ℕ) (q : List ℕ) → 3 * k + 3 ≤ length q
-      → take 3 (drop (3 * k) (answers_of bytes m q)) ≡ three (answer_of bytes m (get_or q (3 * k) 0) (get_or q (3 * k + 1) 0) (get_or q (3 * k + 2) 0))
+      → take 3 (drop (3 * k) (answers_of bytes m q))
+      ≡ three (answer_of bytes m (get_or q (3 * k) 0) (get_or q (3 * k + 1) 0) (get_or q (3 * k + 2) 0))
   own_answer k q h = ap (take 3) (answers_drop k q (omega arith) ∙ answers_step (3 * k) q h)
 
   -- "never over four times the index's height"

@@ -22,7 +22,8 @@ use Rattle.batch.proofs.Settled.{own_place}
 abbrev pub reply_at : List ℕ → ℕ → Reply
 reply_at s k = record { code = get_or s (3 * k) 0; result = get_or s (3 * k + 1) 0 }
 
-module _ (bytes : List ℕ) (m : ℕ) (idx : List ℤ) (q held : List ℕ) (ok : Accepted bytes m idx (length q) (length held)) (k : ℕ) (in_q : 3 * k + 3 ≤ length q) where
+module _ (bytes : List ℕ) (m : ℕ) (idx : List ℤ) (q held : List ℕ)
+    (ok : Accepted bytes m idx (length q) (length held)) (k : ℕ) (in_q : 3 * k + 3 ≤ length q) where
   long : length (batch_answers bytes m idx q held) ≡ length held
   unfolding batch_answers
   long = rw ((accepted bytes m idx (length q) (length held)).1 ok) (length-sets held 0 (answers_of bytes m q))
@@ -32,7 +33,8 @@ module _ (bytes : List ℕ) (m : ℕ) (idx : List ℤ) (q held : List ℕ) (ok :
 
   three_are : get_or left (3 * k) 0 ∷ (get_or left (3 * k + 1) 0 ∷ (get_or left (3 * k + 2) 0 ∷ []))
       ≡ three (answer_of bytes m (get_or q (3 * k) 0) (get_or q (3 * k + 1) 0) (get_or q (3 * k + 2) 0))
-  three_are = sym (ap (take 3) (drop_three left (3 * k) 0 (omega (arith, long, in_q, ok.room_lent)))) ∙ own_place bytes m idx q held ok k in_q
+  three_are = sym (ap (take 3) (drop_three left (3 * k) 0 (omega (arith, long, in_q, ok.room_lent))))
+      ∙ own_place bytes m idx q held ok k in_q
 
   -- the answer that an accepted batch writes for its question k has the code and result that `asked` gives
   pub answered : reply_at left k ≡ asked (word bytes m) (get_or q (3 * k) 0) (get_or q (3 * k + 1) 0) (get_or q (3 * k + 2) 0)

@@ -19,10 +19,18 @@ use Rattle.walk.specs.Lent.{Lent}
 use Rattle.batch.specs.Batch.{not_threes, too_little_room, differs, refusal}
 
 -- past the first five, word and index decide
-pub judging : (bytes : List ℕ) (m : ℕ) (idx : List ℤ) (asked room : ℕ) → m ≤ 2097152 → bytes_of m ≤ length bytes → numbers_of m ≤ length idx → asked % 3 ≡ 0 → asked ≤ room
+pub judging : (bytes : List ℕ) (m : ℕ) (idx : List ℤ) (asked room : ℕ) → m ≤ 2097152 → bytes_of m ≤ length bytes →
+    numbers_of m ≤ length idx → asked % 3 ≡ 0 → asked ≤ room
     → refusal bytes m idx asked room ≡ cond (unbalanced bytes m) 6 (cond (differs bytes m idx) 7 0)
 unfolding refusal
-judging bytes m idx asked room a b d e f = simp (le-ltb 2097152 m a, le-ltb (length bytes) (bytes_of m) b, le-ltb (length idx) (numbers_of m) d, eq-eqb (asked % 3) 0 e, le-ltb room asked f)
+judging bytes m idx asked room a b d e f =
+    simp (
+      le-ltb 2097152 m a,
+      le-ltb (length bytes) (bytes_of m) b,
+      le-ltb (length idx) (numbers_of m) d,
+      eq-eqb (asked % 3) 0 e,
+      le-ltb room asked f,
+    )
 
 pub record Accepted (bytes : List ℕ) (m : ℕ) (idx : List ℤ) (asked room : ℕ) : Type 0 where
   pub size : m ≤ 2097152
@@ -34,7 +42,8 @@ pub record Accepted (bytes : List ℕ) (m : ℕ) (idx : List ℤ) (asked room : 
   pub indexed : is_index (height m) (word bytes m) idx ≡ true
 
 -- code 0 exactly where none of the seven holds
-pub accepted : (bytes : List ℕ) (m : ℕ) (idx : List ℤ) (asked room : ℕ) → (refusal bytes m idx asked room ≡ 0) ↔ Accepted bytes m idx asked room
+pub accepted : (bytes : List ℕ) (m : ℕ) (idx : List ℤ) (asked room : ℕ) →
+    (refusal bytes m idx asked room ≡ 0) ↔ Accepted bytes m idx asked room
 unfolding refusal
 accepted bytes m idx asked room = (
   (λ e.
@@ -58,5 +67,7 @@ accepted bytes m idx asked room = (
 )
 
 -- past the refusals, what is lent is a row and its own index of l leaves
-pub lent_of : (bytes : List ℕ) (m : ℕ) (idx : List ℤ) (l : ℕ) → m ≤ 2097152 → bytes_of m ≤ length bytes → l ≡ 2 ^ height m → is_index (height m) (word bytes m) idx ≡ true → Lent bytes idx m l
-lent_of bytes m idx l a b e i = record { small = a; enough = omega (arith, b); leaves = e; indexed = tested (height m) (word bytes m) idx i }
+pub lent_of : (bytes : List ℕ) (m : ℕ) (idx : List ℤ) (l : ℕ) → m ≤ 2097152 → bytes_of m ≤ length bytes →
+    l ≡ 2 ^ height m → is_index (height m) (word bytes m) idx ≡ true → Lent bytes idx m l
+lent_of bytes m idx l a b e i =
+    record { small = a; enough = omega (arith, b); leaves = e; indexed = tested (height m) (word bytes m) idx i }

@@ -23,24 +23,29 @@ use Rattle.batch.proofs.Answers.{answers_long, own_answer}
 
 module _ (bytes : List ℕ) (m : ℕ) (idx : List ℤ) (q held : List ℕ) where
   -- no second outcome fits
-  pub outcome_settled : (r r' : Outcome) (left left' : List ℕ) → Batched bytes m idx q held r left → Batched bytes m idx q held r' left' → (r ≡ r') × (left ≡ left')
+  pub outcome_settled : (r r' : Outcome) (left left' : List ℕ) →
+      Batched bytes m idx q held r left → Batched bytes m idx q held r' left' → (r ≡ r') × (left ≡ left')
   outcome_settled r r' left left' p p' = (p.outcome_is ∙ sym p'.outcome_is, p.answers_are ∙ sym p'.answers_are)
 
   -- and no second result
-  pub settled : (r r' : Result ℕ Refusal) (left left' : List ℕ) → Batched bytes m idx q held (outcome r) left → Batched bytes m idx q held (outcome r') left' → (r ≡ r') × (left ≡ left')
+  pub settled : (r r' : Result ℕ Refusal) (left left' : List ℕ) →
+      Batched bytes m idx q held (outcome r) left → Batched bytes m idx q held (outcome r') left' → (r ≡ r') × (left ≡ left')
   settled r r' left left' p p' = let s = outcome_settled (outcome r) (outcome r') left left' p p' in (outcome_apart r r' s.0, s.1)
 
   -- a refusal: its number with 0 beside it, and the slice as it was
-  pub ends_refused : (c : ℕ) → c ≡ refusal bytes m idx (length q) (length held) → (c ≡ 0 → ⊥) → Batched bytes m idx q held (record { code = c; value = 0 }) held
+  pub ends_refused : (c : ℕ) → c ≡ refusal bytes m idx (length q) (length held) → (c ≡ 0 → ⊥) →
+      Batched bytes m idx q held (record { code = c; value = 0 }) held
   unfolding batch_outcome batch_answers
   ends_refused zero i h = absurd (h refl)
   ends_refused (suc c) i h = record { outcome_is = rw (← i); answers_are = rw (← i) }
 
   -- "Refusals 1 to 7 return 0 beside the code and write nothing."
-  pub refused_whole : (r : Outcome) (left : List ℕ) → Batched bytes m idx q held r left → (refusal bytes m idx (length q) (length held) ≡ 0 → ⊥)
+  pub refused_whole : (r : Outcome) (left : List ℕ) → Batched bytes m idx q held r left →
+      (refusal bytes m idx (length q) (length held) ≡ 0 → ⊥)
       → (r ≡ record { code = refusal bytes m idx (length q) (length held); value = 0 }) × (left ≡ held)
   refused_whole r left p some_refusal =
-      outcome_settled r (record { code = refusal bytes m idx (length q) (length held); value = 0 }) left held p (ends_refused (refusal bytes m idx (length q) (length held)) refl some_refusal)
+      outcome_settled r (record { code = refusal bytes m idx (length q) (length held); value = 0 }) left held p
+      (ends_refused (refusal bytes m idx (length q) (length held)) refl some_refusal)
 
   module _ (ok : Accepted bytes m idx (length q) (length held)) where
     none : refusal bytes m idx (length q) (length held) ≡ 0
@@ -59,12 +64,15 @@ module _ (bytes : List ℕ) (m : ℕ) (idx : List ℤ) (q held : List ℕ) where
     accepted_outcome = rw none
 
     -- question k's own answer stands at its place of the slice
-    pub own_place : (k : ℕ) → 3 * k + 3 ≤ length q → take 3 (drop (3 * k) (batch_answers bytes m idx q held)) ≡ three (answer_of bytes m (get_or q (3 * k) 0) (get_or q (3 * k + 1) 0) (get_or q (3 * k + 2) 0))
+    pub own_place : (k : ℕ) → 3 * k + 3 ≤ length q →
+        take 3 (drop (3 * k) (batch_answers bytes m idx q held))
+        ≡ three (answer_of bytes m (get_or q (3 * k) 0) (get_or q (3 * k + 1) 0) (get_or q (3 * k + 2) 0))
     own_place k h =
         let l = answers_long bytes m q ok.threes in
         ap (λ s. take 3 (drop (3 * k) s)) answers_plain
         ∙ ap (take 3) (drop-append-le (3 * k) (answers_of bytes m q) (drop (length q) held) (omega arith))
-        ∙ take-append-le 3 (drop (3 * k) (answers_of bytes m q)) (drop (length q) held) (omega (arith, length-drop (3 * k) (answers_of bytes m q)))
+        ∙ take-append-le 3 (drop (3 * k) (answers_of bytes m q)) (drop (length q) held)
+        (omega (arith, length-drop (3 * k) (answers_of bytes m q)))
         ∙ own_answer bytes m k q h
 
 -- where `build` has nothing to refuse and the questions are threes with room for the answers, the index decides
@@ -84,7 +92,8 @@ module _ (bytes : List ℕ) (m : ℕ) (asked room : ℕ) (threes : asked % 3 ≡
       })
 
   -- and nothing else: an index is accepted exactly where building over it changes nothing
-  pub accepted_built : (idx : List ℤ) → building bytes m (length idx) ≡ 0 → (refusal bytes m idx asked room ≡ 0) ↔ (built_index bytes m idx ≡ idx)
+  pub accepted_built : (idx : List ℤ) → building bytes m (length idx) ≡ 0 →
+      (refusal bytes m idx asked room ≡ 0) ↔ (built_index bytes m idx ≡ idx)
   accepted_built idx ok = (
     (λ e. (checked_built bytes m idx ok).0 ((accepted bytes m idx asked room).0 e).indexed),
     λ e. ap (λ i. refusal bytes m i asked room) (sym e) ∙ built_accepted idx ok,

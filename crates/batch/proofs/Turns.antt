@@ -22,7 +22,9 @@ module _ (bytes : List ℕ) (m : ℕ) (q held : List ℕ) where
   done_none = record { inside = omega arith; threes = refl; long = refl; goes = refl }
 
   module _ (now : List ℕ) (at : ℕ) (d : Done bytes m q held now at) where
-    pub done_next : (left : List ℕ) (a : Answer) → length q % 3 ≡ 0 → at < length q → a ≡ answer_of bytes m (get_or q at 0) (get_or q (at + 1) 0) (get_or q (at + 2) 0) → left ≡ sets now at (three a) → Done bytes m q held left (at + 3)
+    pub done_next : (left : List ℕ) (a : Answer) → length q % 3 ≡ 0 → at < length q →
+        a ≡ answer_of bytes m (get_or q at 0) (get_or q (at + 1) 0) (get_or q (at + 2) 0) →
+        left ≡ sets now at (three a) → Done bytes m q held left (at + 3)
     done_next left a t more is put =
         let rest = answers_of bytes m (drop (at + 3) q) in
         record {
@@ -38,7 +40,8 @@ module _ (bytes : List ℕ) (m : ℕ) (q held : List ℕ) where
         }
 
     pub done_all : length q ≤ at → now ≡ sets held 0 (answers_of bytes m q)
-    done_all h = let e : at ≡ length q = omega (arith, d.inside) in sym (ap (λ s. sets now at (answers_of bytes m s)) (drop_all at e)) ∙ d.goes
+    done_all h = let e : at ≡ length q = omega (arith, d.inside) in
+        sym (ap (λ s. sets now at (answers_of bytes m s)) (drop_all at e)) ∙ d.goes
       where
         drop_all : (n : ℕ) → n ≡ length q → drop n q ≡ []
         drop_all n e = ap (λ n. drop n q) e ∙ drop-length q

@@ -12,7 +12,7 @@ use answer::{Answer, Balanced};
 use judge::Refusal;
 use walk::Lineage;
 
-// "Each answer is code, result, entries read."
+// "Each answer is code, result, entries read.": to C it is three numbers of one slice.
 fn put(answers: &mut [u32], at: usize, a: Answer)
     requires { at + 3 ≤ length answers.old }
     ensures { answers.new ≡ sets answers.old at (three (told a)) }
@@ -21,12 +21,10 @@ fn put(answers: &mut [u32], at: usize, a: Answer)
         Ok(result) => (0, result),
         Err(fault) => (u32::from(fault), 0),
     };
-    answers[at] = code;
-    answers[at + 1] = result;
-    answers[at + 2] = a.reads;
+    fill::copy(&[code, result, a.reads], answers, at);
 }
 
-// Three numbers in, three out, each question in turn.
+// Three numbers in, three out, each question in turn. The loop goes by places, since an answer stands where its question stood.
 fn answer_all(of: &Balanced<'_>, questions: &[u32], answers: &mut [u32])
     requires { (length questions.now % 3 ≡ 0) × (length questions.now ≤ length answers.old) }
     ensures { answers.new ≡ sets answers.old 0 (answers_of of.now.lineage.row.bytes.now of.now.lineage.row.m questions.now) }

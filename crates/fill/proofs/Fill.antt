@@ -33,5 +33,5 @@ module _ {A : Type 0} where
       next i j e k = drop-cons l i d k ∙ ap (λ x. get_or l i d ∷ drop x l) e
 
 -- no second outcome fits what `copy` promises
-pub settled : (src dst left left₂ : List ℕ) (to : ℕ) → left ≡ sets dst to src → left₂ ≡ sets dst to src → left ≡ left₂
+pub settled : {A : Type 0} (src dst left left₂ : List A) (to : ℕ) → left ≡ sets dst to src → left₂ ≡ sets dst to src → left ≡ left₂
 settled src dst left left₂ to p q = p ∙ sym q

@@ -30,7 +30,8 @@ module _ (e : ℕ → Summary) (k : ℕ) (t : ℤ) (n : ℕ) (d : 1 < k) where
   unfolding climb
   at_hit s h = let v = even_hit h in rw (ne_eqb k 1 (omega zarith), v, rw v at h)
 
-  at_miss : (s : ℕ) → hit (after_of e k n).value t ≡ false → climb e s (k / 2) (t -ℤ (after_of e k n).value.total) (after_of e k n).reads ≡ climb e (suc s) k t n
+  at_miss : (s : ℕ) → hit (after_of e k n).value t ≡ false → climb e s (k / 2) (t -ℤ (after_of e k n).value.total) (after_of e k n).reads
+      ≡ climb e (suc s) k t n
   unfolding climb
   at_miss s h = by_test (even k) (λ v. rw (ne_eqb k 1 (omega zarith), v, rw v at h)) (λ v. rw (ne_eqb k 1 (omega zarith), v, empty_off))
 
@@ -45,7 +46,8 @@ module _ (e : ℕ → Summary) (w : Walk) (d : 1 < w.entry) (x : Counted Summary
     is = λ s. at_hit e w.entry w.want w.reads d s (rw q at h);
   })
 
-  pub past : hit x.value w.want ≡ false → SFits w32 x.value.total → (u : Walk) → u ≡ walk (w.entry / 2) (w.want -ℤ x.value.total) x.reads → Up (climb_of e) w u
+  pub past : hit x.value w.want ≡ false → SFits w32 x.value.total → (u : Walk) → u ≡ walk (w.entry / 2) (w.want -ℤ x.value.total) x.reads
+      → Up (climb_of e) w u
   past h o u r = rw (r, q) (record {
     half = refl;
     near = total_off w.want (after_of e w.entry w.reads).value.total (rw q at o.sfits);

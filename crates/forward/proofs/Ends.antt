@@ -27,12 +27,15 @@ module _ (bytes : List ℕ) (i n : ℕ) (x : List Bool) (t : ℤ) (s : Result �
   left u y = scanned_left (first i x t) (t -ℤ depth_of x) u (sym scan_is ∙ y)
 
 -- ---- the leaf where the walk stands
-pub leaf_is : (bytes : List ℕ) (m l : ℕ) (w : Walk) (to : ℕ) (s : Result ℕ ℤ) → to ≡ min (256 * (w.entry - l + 1)) m → s ≡ scan_of bytes (256 * (w.entry - l)) (to - 256 * (w.entry - l)) w.want
+pub leaf_is : (bytes : List ℕ) (m l : ℕ) (w : Walk) (to : ℕ) (s : Result ℕ ℤ) → to ≡ min (256 * (w.entry - l + 1)) m
+    → s ≡ scan_of bytes (256 * (w.entry - l)) (to - 256 * (w.entry - l)) w.want
     → (reached s, w.reads) ≡ leaf_scan l (word bytes m) w
-leaf_is bytes m l w to s e r = ap (λ (x : Option ℕ). (x, w.reads)) (ap reached (scan_is bytes _ _ _ w.want s (block_is bytes m (w.entry - l) to e) r) ∙ reached_is _ _)
+leaf_is bytes m l w to s e r = ap (λ (x : Option ℕ). (x, w.reads))
+    (ap reached (scan_is bytes _ _ _ w.want s (block_is bytes m (w.entry - l) to e) r) ∙ reached_is _ _)
 
 -- ---- the block where the walk starts
-module _ (bytes : List ℕ) (m p : ℕ) (t : ℤ) (o : p < m) (to : ℕ) (e : to ≡ min (256 * (p / 256 + 1)) m) (s : Result ℕ ℤ) (r : s ≡ scan_of bytes p (to - p) t) where
+module _ (bytes : List ℕ) (m p : ℕ) (t : ℤ) (o : p < m) (to : ℕ) (e : to ≡ min (256 * (p / 256 + 1)) m) (s : Result ℕ ℤ)
+    (r : s ≡ scan_of bytes p (to - p) t) where
   pub start_met : (q : ℕ) → s ≡ Ok q → first p (ahead (word bytes m) p) t ≡ some q
   start_met = met bytes p (to - p) (ahead (word bytes m) p) t s (ahead_is bytes m p to e o) r
 

@@ -12,5 +12,6 @@ use Rattle.walk.specs.Walk.{said}
 use Rattle.walk.specs.Forward.{forward}
 use Rattle.walk.proofs.Settled.{said_settled}
 
-pub forward_settled : (bytes : List ℕ) (m p : ℕ) (want : ℤ) → Settles {A = Counted (code.Option ℕ)} (λ r. said r ≡ forward (height m) (word bytes m) p want)
+pub forward_settled : (bytes : List ℕ) (m p : ℕ) (want : ℤ)
+    → Settles {A = Counted (code.Option ℕ)} (λ r. said r ≡ forward (height m) (word bytes m) p want)
 forward_settled bytes m p want = said_settled (forward (height m) (word bytes m) p want)

@@ -28,9 +28,15 @@ module _ (e : ℕ → Summary) (l k : ℕ) (t : ℤ) (n s : ℕ) (b : k < l) whe
 -- x is what was read of the left child of entry w
 module _ (e : ℕ → Summary) (l : ℕ) (w : Walk) (b : w.entry < l) (x : Counted Summary) (q : x ≡ seen (e (2 * w.entry)) (w.reads + 1)) where
   pub left : hit x.value w.want ≡ true → (u : Walk) → u ≡ walk (2 * w.entry) w.want x.reads → Down (descent_of e l) w u
-  left h u r = rw (r, q) (record { child = omega zarith; near = omega zarith; reads = omega zarith; on = λ s. below_hit e l w.entry w.want w.reads s b (rw q at h) })
+  left h u r = rw (r, q) (record {
+    child = omega zarith;
+    near = omega zarith;
+    reads = omega zarith;
+    on = λ s. below_hit e l w.entry w.want w.reads s b (rw q at h);
+  })
 
-  pub right : hit x.value w.want ≡ false → SFits w32 x.value.total → (u : Walk) → u ≡ walk (2 * w.entry + 1) (w.want -ℤ x.value.total) x.reads → Down (descent_of e l) w u
+  pub right : hit x.value w.want ≡ false → SFits w32 x.value.total → (u : Walk)
+      → u ≡ walk (2 * w.entry + 1) (w.want -ℤ x.value.total) x.reads → Down (descent_of e l) w u
   right h o u r = rw (r, q) (record {
     child = omega zarith;
     near = total_off w.want (e (2 * w.entry)).total (rw q at o.sfits);

@@ -35,10 +35,18 @@ module _ (bytes : List ℕ) (i m n : ℕ) (t : ℤ) (e : n ≡ suc m) where
 
   scan_next : eq_z (t -ℤ step (bit bytes i)) (pos 0) ≡ false → scan_of bytes i n t ≡ scan_of bytes (suc i) m (t -ℤ step (bit bytes i))
   unfolding scan_of
-  scan_next z = rw (e, first_cons i (bit bytes i) (bits bytes (suc i) m) t, met_is (bit bytes i) t false z, depth_cons (bit bytes i) (bits bytes (suc i) m), off_twice)
+  scan_next z =
+      rw (
+        e,
+        first_cons i (bit bytes i) (bits bytes (suc i) m) t,
+        met_is (bit bytes i) t false z,
+        depth_cons (bit bytes i) (bits bytes (suc i) m),
+        off_twice,
+      )
 
 -- one turn of the code's loop, where `r` is what bit i adds, widened: what is wanted after it is `wb (t -ℤ wb r)`
-module _ (bytes : List ℕ) (to i : ℕ) (t r s : ℤ) (b : Bool) (l : i < to) (near : nat_abs t ≤ 2305843009213693952) (e : r ≡ rb s) (f : s ≡ step b) (g : b ≡ bit bytes i) where
+module _ (bytes : List ℕ) (to i : ℕ) (t r s : ℤ) (b : Bool) (l : i < to) (near : nat_abs t ≤ 2305843009213693952) (e : r ≡ rb s)
+    (f : s ≡ step b) (g : b ≡ bit bytes i) where
   on : s ≡ step (bit bytes i)
   on = rw f (ap step g)
 
@@ -46,10 +54,12 @@ module _ (bytes : List ℕ) (to i : ℕ) (t r s : ℤ) (b : Bool) (l : i < to) (
   after = less_step t r s (bit bytes i) near e on
 
   pub turn_met : of_z w64 (t -ℤ wb r) ≡ 0 → Ok (i + 1) ≡ scan_of bytes i (to - i) t
-  turn_met z = ap Ok (add-one i) ∙ sym (scan_met bytes i (to - (i + 1)) (to - i) t (omega zarith) (less_zero t r s (bit bytes i) near e on z))
+  turn_met z = ap Ok (add-one i)
+      ∙ sym (scan_met bytes i (to - (i + 1)) (to - i) t (omega zarith) (less_zero t r s (bit bytes i) near e on z))
 
   pub turn_next : (of_z w64 (t -ℤ wb r) ≡ 0 → ⊥) → scan_of bytes (i + 1) (to - (i + 1)) (wb (t -ℤ wb r)) ≡ scan_of bytes i (to - i) t
-  turn_next z = rw (after, add-one i) (sym (scan_next bytes i (to - suc i) (to - i) t (omega zarith) (less_other t r s (bit bytes i) near e on z)))
+  turn_next z =
+      rw (after, add-one i) (sym (scan_next bytes i (to - suc i) (to - i) t (omega zarith) (less_other t r s (bit bytes i) near e on z)))
 
   pub turn_near : (m n : ℕ) → nat_abs t ≤ m → m + 1 ≡ n → nat_abs (wb (t -ℤ wb r)) ≤ n
   turn_near m n h e = rw (after, ← e) (less_near t (step (bit bytes i)) m 1 h (step_abs (bit bytes i)))

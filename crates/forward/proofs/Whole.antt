@@ -34,8 +34,14 @@ module _ (bytes : List ℕ) (idx : List ℤ) (m l p : ℕ) (t : ℤ) (lent : Len
 
     pub begin : Ready l (walk (l + p / 256) u 0)
     begin = let w = ahead (word bytes m) p in
-        ready_at bytes idx m l p u lent b (rw still.1 (omega (arith, less_near t (depth_of w) 8589934592 256 small (depth_abs 256 w (omega (arith, length-take (256 - p % 256) (drop p (word bytes m))))))))
+        ready_at bytes idx m l p u lent b
+        (rw still.1 (omega (
+          arith,
+          less_near t (depth_of w) 8589934592 256 small
+              (depth_abs 256 w (omega (arith, length-take (256 - p % 256) (drop p (word bytes m))))),
+        )))
 
-    pub found_far : landed (height m) (word bytes m) (climb_of (entry (height m) (word bytes m)) (height m) (walk (l + p / 256) u 0)) ≡ forward (height m) (word bytes m) p t
+    pub found_far : landed (height m) (word bytes m) (climb_of (entry (height m) (word bytes m)) (height m) (walk (l + p / 256) u 0))
+        ≡ forward (height m) (word bytes m) p t
     unfolding forward
     found_far = rw (still.0, still.1, lent.leaves)

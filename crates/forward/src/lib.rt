@@ -12,7 +12,8 @@ ghost use Rattle.forward.specs.Steps.{scan_of, climb_of, descent_of, ahead_laws}
 use std::ops::ControlFlow;
 use walk::{Counted, Lineage, Walk, Way};
 
-// The first boundary after `from`, up to `to`, whose depth from `from` is what is wanted; or the amount still wanted.
+// The first boundary after `from`, up to `to`, whose depth from `from` is what is wanted; or the amount still wanted. It tests after each
+// bit, going up; the backward scan tests before each, going down: the two stay two.
 fn scan(bytes: &[u8], from: usize, to: usize, want: i64) -> Result<usize, i64>
     requires { (to ≤ 8 * length bytes.now) × (to ≤ 4194304) × (nat_abs want ≤ 1152921504606846976) }
     ensures { result ≡ scan_of bytes.now from (to - from) want }

@@ -22,7 +22,12 @@ first = 3 ∷ 0 ∷ 12 ∷ 0 ∷ 0 ∷ 0 ∷ 12 ∷ 0 ∷ 0 ∷ 0 ∷ 4 ∷ 0 �
 abbrev second : List ℕ
 second = 3 ∷ 0 ∷ 12 ∷ 0 ∷ 0 ∷ 0 ∷ 6 ∷ 0 ∷ 0 ∷ 0 ∷ 10 ∷ 0 ∷ 0 ∷ 0 ∷ 0 ∷ []
 
-shown : read_of (twelve ++ (bytes ++ (first ++ second))) ≡ record { house = Ok (record { m = 12; bytes = 2; asked = 2 }); bytes = 0x5B ∷ 0x04 ∷ []; numbers = 12 ∷ 4 ∷ 6 ∷ 6 ∷ 10 ∷ 0 ∷ [] }
+shown : read_of (twelve ++ (bytes ++ (first ++ second)))
+    ≡ record {
+      house = Ok (record { m = 12; bytes = 2; asked = 2 });
+      bytes = 0x5B ∷ 0x04 ∷ [];
+      numbers = 12 ∷ 4 ∷ 6 ∷ 6 ∷ 10 ∷ 0 ∷ [];
+    }
 unfolding read_of
 shown = refl
 

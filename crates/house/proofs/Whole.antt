@@ -11,12 +11,10 @@ use Rattle.word.specs.Bits.{bytes_of}
 use Rattle.std.specs.Prelude.{Result, Ok, Err}
 use Rattle.house.specs.declared.State.{State}
 use Rattle.house.specs.declared.House.{House}
-use Rattle.house.specs.declared.Field.{Field}
-use Rattle.house.specs.declared.Field.TheVariants.{Size, Word, Question}
-use Rattle.house.specs.Fields.{is_first, value_at, field_at}
+use Rattle.house.specs.Fields.{Told, size, stretch, question, is_first, field_at}
 use Rattle.house.specs.File.{Gathered, ended, only, start, sized, worded, questioned, onward, from, read_of}
 use Rattle.house.proofs.Fields.{cond_all, Sound, sound}
-use Rattle.house.proofs.Steps.{Steady, steady_start, steady_sized, steady_worded, steady_questioned, value_length}
+use Rattle.house.proofs.Steps.{Steady, steady_start, steady_sized, steady_worded, steady_questioned}
 
 -- what is gathered past a state, if it is accepted: its counts are those of the state and of what came after
 record Counted (s : State) (h : House) (g : Gathered) : Type 0 where
@@ -43,23 +41,24 @@ ended_counts s steady =
     }))
 
 module _ (file : List ℕ) where
-  onward_counts : (s : State) (rest : State → Gathered) → Steady s → ((t : State) → Steady t → Counts t (rest t)) → (f : Result Field ℕ) → Sound file s f → Counts s (onward file s rest f)
+  onward_counts : (s : State) (rest : State → Gathered) → Steady s → ((t : State) → Steady t → Counts t (rest t)) →
+      (f : Result Told ℕ) → Sound file s f → Counts s (onward s rest f)
   onward_counts s rest steady go (Err n) b h z = cc
-  onward_counts s rest steady go (Ok (Size m)) b h z =
+  onward_counts s rest steady go (Ok (size m)) b h z =
       let r = go (sized s m) (steady_sized file s steady m b) h z in
       record { small = r.small; exact = r.exact; few = r.few; bytes_count = r.bytes_count; numbers_count = r.numbers_count }
-  onward_counts s rest steady go (Ok (Word len)) b h z =
-      let g = rest (worded s len) in
-      let r = go (worded s len) (steady_worded file s steady len b) h z in
+  onward_counts s rest steady go (Ok (stretch part)) b h z =
+      let g = rest (worded s (length part)) in
+      let r = go (worded s (length part)) (steady_worded file s steady part b) h z in
       record {
         small = r.small;
         exact = r.exact;
         few = r.few;
-        bytes_count = omega (arith, r.bytes_count, length-append (value_at file s.at len) g.bytes, value_length file s.at len b.0);
+        bytes_count = omega (arith, r.bytes_count, length-append part g.bytes);
         numbers_count = r.numbers_count;
       }
-  onward_counts s rest steady go (Ok Question) b h z =
-      let r = go (questioned s) (steady_questioned file s steady b) h z in
+  onward_counts s rest steady go (Ok (question part)) b h z =
+      let r = go (questioned s) (steady_questioned file s steady part b) h z in
       record { small = r.small; exact = r.exact; few = r.few; bytes_count = r.bytes_count; numbers_count = omega (arith, r.numbers_count) }
 
   from_counts : (turns : ℕ) (s : State) → Steady s → Counts s (from file turns s)
@@ -81,4 +80,10 @@ unfolding read_of
 whole file =
     cond_all (λ g. (h : House) → g.house ≡ Ok h → Whole h g) (ltb 49152 (length file)) _ _ (λ t h z. cc) (λ t h z.
     let r = from_counts file (length file) start steady_start h z in
-    record { small = r.small; exact = r.exact; few = r.few; bytes_count = omega (arith, r.bytes_count); numbers_count = omega (arith, r.numbers_count) })
+    record {
+      small = r.small;
+      exact = r.exact;
+      few = r.few;
+      bytes_count = omega (arith, r.bytes_count);
+      numbers_count = omega (arith, r.numbers_count);
+    })

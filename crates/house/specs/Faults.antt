@@ -1,5 +1,5 @@
--- Faults by document 01's numbers, and a result told by them. Assumes nothing.
-use Rattle.std.specs.Prelude.{ℕ, Result, Ok, Err}
+-- Faults by document 01's numbers. Assumes nothing.
+use Rattle.std.specs.Prelude.{ℕ}
 use Rattle.house.specs.declared.fault.Fault.{Fault}
 use Rattle.house.specs.declared.fault.Fault.TheVariants.{TooFewBytes, CutShort, UnknownTag, OutOfPlace, WrongLength, TooMuch}
 
@@ -11,8 +11,3 @@ number_of UnknownTag = 32
 number_of OutOfPlace = 33
 number_of WrongLength = 34
 number_of TooMuch = 35
-
--- a result with its fault's number in place of the fault
-abbrev pub told : {A : Type 0} → Result A Fault → Result A ℕ
-told (Ok x) = Ok x
-told (Err fault) = Err (number_of fault)

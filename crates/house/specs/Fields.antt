@@ -5,6 +5,8 @@ use Rattle.word.specs.Bits.{bytes_of}
 use Rattle.house.specs.declared.State.{State}
 use Rattle.house.specs.declared.Field.{Field}
 use Rattle.house.specs.declared.Field.TheVariants.{Size, Word, Question}
+use Rattle.house.specs.declared.fault.Fault.{Fault}
+use Rattle.house.specs.Faults.{number_of}
 use Rattle.house.specs.declared.Stage.{Stage}
 use Rattle.house.specs.declared.Stage.TheVariants.{First, Bytes, Questions}
 
@@ -56,24 +58,37 @@ out_of_place tag stage = by_tag tag (not (is_first stage)) (not (is_bytes stage)
 abbrev pub wrong_length : ℕ → ℕ → Bool
 wrong_length tag len = by_tag tag (not (eqb len 4)) (eqb len 0) (not (eqb len 12))
 
+-- what a field without fault tells: m, "the next stretch of word bytes", or a question's twelve bytes
+pub data Told : Type 0 where
+  size : ℕ → Told
+  stretch : List ℕ → Told
+  question : List ℕ → Told
+
+-- what the field reader gives back: a part of the file by the bytes there, and a fault by its number
+abbrev pub told : Result Field Fault → Result Told ℕ
+told (Ok (Size m)) = Ok (size m)
+told (Ok (Word part)) = Ok (stretch part.now)
+told (Ok (Question part)) = Ok (question part.now)
+told (Err fault) = Err (number_of fault)
+
 -- "35 m over 65,536, more than ceil(m/8) word bytes, or a 1,025th question"; a field without fault is what its tag says
-abbrev pub size_field : ℕ → Result Field ℕ
-size_field m = cond (ltb 65536 m) (Err 35) (Ok (Size m))
+abbrev pub size_field : ℕ → Result Told ℕ
+size_field m = cond (ltb 65536 m) (Err 35) (Ok (size m))
 
-abbrev pub word_field : State → ℕ → Result Field ℕ
-word_field s len = cond (ltb (bytes_of s.m) (s.bytes + len)) (Err 35) (Ok (Word len))
+abbrev pub word_field : State → List ℕ → Result Told ℕ
+word_field s part = cond (ltb (bytes_of s.m) (s.bytes + length part)) (Err 35) (Ok (stretch part))
 
-abbrev pub question_field : State → Result Field ℕ
-question_field s = cond (ltb 1023 s.asked) (Err 35) (Ok Question)
+abbrev pub question_field : State → List ℕ → Result Told ℕ
+question_field s part = cond (ltb 1023 s.asked) (Err 35) (Ok (question part))
 
-abbrev pub last_test : List ℕ → State → ℕ → ℕ → Result Field ℕ
-last_test file s tag len = by_tag tag (size_field (four_at file (s.at + 3))) (word_field s len) (question_field s)
+abbrev pub last_test : State → ℕ → List ℕ → Result Told ℕ
+last_test s tag part = by_tag tag (size_field (four_at part 0)) (word_field s part) (question_field s part)
 
 -- the field where the state stands: its faults "in this order"
-abbrev pub field_at : List ℕ → State → Result Field ℕ
+abbrev pub field_at : List ℕ → State → Result Told ℕ
 field_at file s =
     cond (cut_short file s.at) (Err 31)
     (cond (unknown_tag (tag_at file s.at)) (Err 32)
     (cond (out_of_place (tag_at file s.at) s.stage) (Err 33)
     (cond (wrong_length (tag_at file s.at) (length_at file s.at)) (Err 34)
-    (last_test file s (tag_at file s.at) (length_at file s.at)))))
+    (last_test s (tag_at file s.at) (value_at file s.at (length_at file s.at))))))

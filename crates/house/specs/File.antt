@@ -3,14 +3,13 @@
 use Rattle.std.specs.Prelude.{◌≡◌, cond, List, [], ◌∷◌, ◌++◌, ℕ, zero, suc, ◌+◌, ltb, length, Result, Ok, Err}
 use Rattle.std.proofs.lemmas.List.Edits.{sets}
 use Rattle.word.specs.Bits.{bytes_of}
+use Rattle.judge.specs.Numbered.{numbered}
 use Rattle.house.specs.declared.State.{State}
 use Rattle.house.specs.declared.Stage.TheVariants.{First, Bytes, Questions}
 use Rattle.house.specs.declared.House.{House}
-use Rattle.house.specs.declared.Field.{Field}
-use Rattle.house.specs.declared.Field.TheVariants.{Size, Word, Question}
 use Rattle.house.specs.declared.fault.Fault.{Fault}
-use Rattle.house.specs.Faults.{told}
-use Rattle.house.specs.Fields.{is_first, four_at, value_at, field_at}
+use Rattle.house.specs.Faults.{number_of}
+use Rattle.house.specs.Fields.{is_first, four_at, Told, size, stretch, question, field_at}
 
 -- before the first field
 abbrev pub start : State
@@ -49,16 +48,16 @@ abbrev pub three_of : List ℕ → List ℕ
 three_of value = four_at value 0 ∷ (four_at value 4 ∷ (four_at value 8 ∷ []))
 
 -- a field, and then the rest: "Tag 2 .. is the next stretch of word bytes. Tag 3 .. is a question." "The first faulty field decides"
-abbrev pub onward : List ℕ → State → (State → Gathered) → Result Field ℕ → Gathered
-onward file s rest (Err n) = only (Err n)
-onward file s rest (Ok (Size m)) = rest (sized s m)
-onward file s rest (Ok (Word len)) = more (value_at file s.at len) [] (rest (worded s len))
-onward file s rest (Ok Question) = more [] (three_of (value_at file s.at 12)) (rest (questioned s))
+abbrev pub onward : State → (State → Gathered) → Result Told ℕ → Gathered
+onward s rest (Err n) = only (Err n)
+onward s rest (Ok (size m)) = rest (sized s m)
+onward s rest (Ok (stretch part)) = more part [] (rest (worded s (length part)))
+onward s rest (Ok (question part)) = more [] (three_of part) (rest (questioned s))
 
 -- the fields from where the state stands to the end; each is three bytes long or more, so the file's length is turns enough
 abbrev pub from : List ℕ → ℕ → State → Gathered
 from file zero s = only (ended s)
-from file (suc turns) s = cond (ltb s.at (length file)) (onward file s (from file turns) (field_at file s)) (only (ended s))
+from file (suc turns) s = cond (ltb s.at (length file)) (onward s (from file turns) (field_at file s)) (only (ended s))
 
 -- "Whole input over 49,152 bytes: 35. Then the first faulty field decides"
 unfoldable pub read_of : List ℕ → Gathered
@@ -66,6 +65,6 @@ read_of file = cond (ltb 49152 (length file)) (only (Err 35)) (from file (length
 
 -- the promise of reading: what is given back, and what was gathered over both lent slices from the front
 pub record Read (file word numbers : List ℕ) (house : Result House Fault) (word' numbers' : List ℕ) : Type 0 where
-  pub house_is : told house ≡ (read_of file).house
+  pub house_is : numbered number_of house ≡ (read_of file).house
   pub word_is : word' ≡ sets word 0 (read_of file).bytes
   pub numbers_are : numbers' ≡ sets numbers 0 (read_of file).numbers

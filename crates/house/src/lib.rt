@@ -4,9 +4,11 @@
 
 ghost use Rattle.std.specs.Prelude.{◌≡◌, ◌+◌, ◌*◌, ◌<◌, ◌≤◌, length};
 ghost use Rattle.std.proofs.lemmas.List.Edits.{sets};
-ghost use Rattle.house.specs.Faults.{told};
+ghost use Rattle.judge.specs.Numbered.{numbered};
+ghost use Rattle.house.specs.Faults.{number_of};
 ghost use Rattle.house.specs.Tags.{byte_of};
-ghost use Rattle.house.specs.Fields.{four_at, length_at, value_at, cut_short, out_of_place, wrong_length, size_field, word_field, question_field, field_at};
+ghost use Rattle.house.specs.Fields.{four_at, length_at, value_at, cut_short, out_of_place, wrong_length};
+ghost use Rattle.house.specs.Fields.{told, size_field, word_field, question_field, field_at};
 ghost use Rattle.house.specs.File.{three_of, Read, ended, start, sized, worded, questioned};
 
 pub use fault::Fault;
@@ -23,7 +25,8 @@ enum Stage {
     Questions,
 }
 
-// What the fields before the place `at` have told.
+// What the fields before the place `at` have told. `m` is 0 before the first, and no Option, since past it each field would unwrap it.
+// The bounds of `at` and `bytes` are clauses of the functions below: a struct with a ghost field cannot be written with `..self`.
 #[derive(Clone, Copy)]
 struct State {
     at: usize,
@@ -33,12 +36,13 @@ struct State {
     asked: usize,
 }
 
-// A field with no fault. A word's stretch carries its length: the bytes stay in the file.
+// A field with no fault. "A field's bytes are handed on as that part of the input, uncopied": the next stretch of word bytes, or a
+// question's twelve.
 #[derive(Clone, Copy)]
-enum Field {
+enum Field<'a> {
     Size(u32),
-    Word(usize),
-    Question,
+    Word(&'a [u8]),
+    Question(&'a [u8]),
 }
 
 // What a sound file brings: m, how many word bytes and how many questions.
@@ -100,7 +104,7 @@ impl State {
     }
 }
 
-// "All numbers most significant first"
+// "all numbers most significant first": a field's two-byte length, and a number of four bytes
 fn length_at(file: &[u8], at: usize) -> usize
     requires { at + 3 ≤ length file.now }
     ensures { (result ≡ length_at file.now at) × (result < 65536) }
@@ -115,7 +119,7 @@ fn four_at(file: &[u8], i: usize) -> u32
     u32::from_be_bytes([file[i], file[i + 1], file[i + 2], file[i + 3]])
 }
 
-// "A field's bytes are handed on as that part of the input, uncopied."
+// The bytes of the field at `at`, as that part of the file.
 fn value(file: &[u8], at: usize, len: usize) -> &[u8]
     requires { at + 3 + len ≤ length file.now }
     ensures { result.now ≡ value_at file.now at len }
@@ -152,7 +156,7 @@ fn wrong_length(tag: Tag, len: usize) -> bool
     }
 }
 
-fn size_field(m: u32) -> Result<Field, Fault>
+fn size_field<'a>(m: u32) -> Result<Field<'a>, Fault>
     ensures { told result ≡ size_field m }
 {
     if 65536 < m {
@@ -161,27 +165,27 @@ fn size_field(m: u32) -> Result<Field, Fault>
     Ok(Field::Size(m))
 }
 
-fn word_field(s: State, len: usize) -> Result<Field, Fault>
-    requires { (s.bytes ≤ 8192) × (len < 65536) }
-    ensures { told result ≡ word_field s len }
+fn word_field(s: State, part: &[u8]) -> Result<Field<'_>, Fault>
+    requires { (s.bytes ≤ 8192) × (length part.now < 65536) }
+    ensures { told result ≡ word_field s part.now }
 {
-    if judge::bytes_of(s.m) < s.bytes + len {
+    if judge::bytes_of(s.m) < s.bytes + part.len() {
         return Err(Fault::TooMuch);
     }
-    Ok(Field::Word(len))
+    Ok(Field::Word(part))
 }
 
-fn question_field(s: State) -> Result<Field, Fault>
-    ensures { told result ≡ question_field s }
+fn question_field(s: State, part: &[u8]) -> Result<Field<'_>, Fault>
+    ensures { told result ≡ question_field s part.now }
 {
     if 1023 < s.asked {
         return Err(Fault::TooMuch);
     }
-    Ok(Field::Question)
+    Ok(Field::Question(part))
 }
 
 // "Then the first faulty field decides, in this order: 31 .. 32 .. 33 .. 34 .. 35"
-fn field_at(file: &[u8], s: State) -> Result<Field, Fault>
+fn field_at(file: &[u8], s: State) -> Result<Field<'_>, Fault>
     requires { (s.at < length file.now) × (s.bytes ≤ 8192) }
     ensures { told result ≡ field_at file.now s }
 {
@@ -197,10 +201,11 @@ fn field_at(file: &[u8], s: State) -> Result<Field, Fault>
     if wrong_length(tag, len) {
         return Err(Fault::WrongLength);
     }
+    let part = value(file, at, len);
     match tag {
-        Tag::Size => size_field(four_at(file, at + 3)),
-        Tag::Word => word_field(s, len),
-        Tag::Question => question_field(s),
+        Tag::Size => size_field(four_at(part, 0)),
+        Tag::Word => word_field(s, part),
+        Tag::Question => question_field(s, part),
     }
 }
 
@@ -209,13 +214,15 @@ fn put_three(value: &[u8], numbers: &mut [u32], to: usize)
     requires { (length value.now ≡ 12) × (to + 3 ≤ length numbers.old) }
     ensures { numbers.new ≡ sets numbers.old to (three_of value.now) }
 {
-    numbers[to] = four_at(value, 0);
-    numbers[to + 1] = four_at(value, 4);
-    numbers[to + 2] = four_at(value, 8);
+    fill::copy(
+        &[four_at(value, 0), four_at(value, 4), four_at(value, 8)],
+        numbers,
+        to,
+    );
 }
 
 fn ending(s: State) -> Result<House, Fault>
-    ensures { told result ≡ ended s }
+    ensures { numbered number_of result ≡ ended s }
 {
     if s.stage == Stage::First {
         return Err(Fault::CutShort);
@@ -230,8 +237,8 @@ fn ending(s: State) -> Result<House, Fault>
     })
 }
 
-// The whole file: word bytes and questions' numbers over the lent arrays from their fronts, which have room for the most
-// that a file may hold.
+// The whole file: word bytes and questions' numbers over the lent arrays from their fronts. Nothing is put on the heap, so the
+// arrays are lent at their full size, room for the most that a file may hold; House's two counts tell how much of each was filled.
 pub fn read(file: &[u8], word: &mut [u8; 8192], numbers: &mut [u32; 3072]) -> Result<House, Fault>
     ensures { Read file.now word.old numbers.old result word.new numbers.new }
 {
@@ -244,12 +251,12 @@ pub fn read(file: &[u8], word: &mut [u8; 8192], numbers: &mut [u32; 3072]) -> Re
             Field::Size(m) => {
                 s = s.sized(m);
             }
-            Field::Word(len) => {
-                fill::copy(value(file, s.at, len), word, s.bytes);
-                s = s.worded(len);
+            Field::Word(part) => {
+                fill::copy(part, word, s.bytes);
+                s = s.worded(part.len());
             }
-            Field::Question => {
-                put_three(value(file, s.at, 12), numbers, 3 * s.asked);
+            Field::Question(part) => {
+                put_three(part, numbers, 3 * s.asked);
                 s = s.questioned();
             }
         }

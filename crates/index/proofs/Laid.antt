@@ -1,33 +1,15 @@
 -- Entries laid over the numbers lent, from the last to the first, and what is read back. Assumes nothing.
 use mathlib.Core.Path.{◌≡◌, refl, sym, ap, ◌∙◌}
-use mathlib.Core.List.{List, [], ◌∷◌, ◌++◌, append_assoc}
+use mathlib.Core.List.{List, [], ◌∷◌, ◌++◌}
 use Prim.Native.Nat.{ℕ, suc, ◌+◌, ◌*◌, ◌≤◌, ◌<◌}
 use native.Mathlib.Omega.{arith}
 use lib.ListN.{length, set, get_or, take, drop, length-append, length-take, get_or-append}
-use lib.Seq.{sets, sets-eq, drop-drop, set_comm, get_or-append-add}
+use lib.Seq.{sets, sets-eq, set_comm, get_or-append-add}
 use lib.IntN.{ℤ, pos}
-use lib.Signed.{mag}
-use borrow.Rule.Slice.PartMut.{put_mid}
-use mir.Syntax.{w32}
-use mir.Val.{to_z, of_z}
-use mir.Facts.{to_z-of_z}
 use Rattle.summary.specs.declared.Summary.{Summary}
 use Rattle.index.specs.Shape.{index_from}
 use Rattle.index.specs.Lent.{entry_at, four}
 use Rattle.index.proofs.Numbers.{length_index, entry_same, entries}
-
--- what the machine reads back of a number that fits
-abbrev rb : ℤ → ℤ
-rb z = to_z w32 (of_z w32 z)
-
-rb_is : (z : ℤ) → mag z < 2147483648 → rb z ≡ z
-rb_is z h = to_z-of_z {w = w32} (record { sfits = h })
-
--- an entry's four numbers, written over the four places from i on
-pub laid : (l vs : List ℤ) (i k : ℕ) (s : Summary) → vs ≡ rb s.total ∷ rb s.least ∷ rb s.greatest ∷ rb s.count ∷ [] → k ≡ 4 → i + 3 < length l
-    → mag s.total < 2147483648 → mag s.least < 2147483648 → mag s.greatest < 2147483648 → mag s.count < 2147483648
-    → put_mid i k l vs ≡ sets l i (four s)
-laid l vs i k s e n h t u v w = rw (e, n, rb_is s.total t, rb_is s.least u, rb_is s.greatest v, rb_is s.count w, sets-eq (four s) l i (omega arith), append_assoc, drop-drop)
 
 -- ---- writing over a list, the later part first
 module _ {A : Type 0} where

@@ -2,15 +2,12 @@
 use Rattle.std.specs.Prelude.{◌≡◌, Bool, true, false, cond, List, [], ◌∷◌, ℕ, ◌+◌, ◌*◌, ◌^◌, ◌≤◌, ◌<◌, ltb, length, get_or, ℤ, pos}
 use Rattle.word.specs.Signed.{eq_z}
 use Rattle.summary.specs.declared.Summary.{Summary}
+pub use Rattle.summary.specs.Four.{four}
 use Rattle.index.specs.Shape.{entry, index, numbers_of}
 
 -- "Entry k takes four signed 32-bit numbers from place 4k."
 abbrev pub entry_at : List ℤ → ℕ → Summary
 entry_at idx k = record { total = get_or idx (4 * k) (pos 0); least = get_or idx (4 * k + 1) (pos 0); greatest = get_or idx (4 * k + 2) (pos 0); count = get_or idx (4 * k + 3) (pos 0) }
-
--- the four numbers, in the order in which they lie
-abbrev pub four : Summary → List ℤ
-four s = s.total ∷ s.least ∷ s.greatest ∷ s.count ∷ []
 
 -- the numbers lent are the index, of height h, of the word: each entry read is the word's own
 pub record Indexed (h : ℕ) (w : List Bool) (idx : List ℤ) : Type 0 where

@@ -13,20 +13,15 @@ pub fn read(index: &[i32], k: usize) -> Summary
     requires { 4 * k + 3 < length index.now }
     ensures { result ≡ entry_at index.now k }
 {
-    Summary {
-        total: index[4 * k],
-        least: index[4 * k + 1],
-        greatest: index[4 * k + 2],
-        count: index[4 * k + 3],
-    }
+    let at = 4 * k;
+    Summary::from([index[at], index[at + 1], index[at + 2], index[at + 3]])
 }
 
-#[tactic(auto, using(crate::proofs::Laid::laid))]
 pub fn put(index: &mut [i32], k: usize, s: Summary)
     requires { 4 * k + 3 < length index.old }
     ensures { index.new ≡ sets index.old (4 * k) (four s) }
 {
-    index[4 * k..4 * k + 4].copy_from_slice(&[s.total, s.least, s.greatest, s.count]);
+    fill::copy(&<[i32; 4]>::from(s), index, 4 * k);
 }
 
 // "L is the least power of two that is at least 1 and at least B".

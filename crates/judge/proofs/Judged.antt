@@ -36,13 +36,17 @@ pub record Accepted (bytes : List ℕ) (m : ℕ) : Type 0 where
   pub balanced : Balanced (word bytes m)
 
 -- past refusals 1 and 2 the word decides
-pub judging : (bytes : List ℕ) (m : ℕ) → m ≤ 2097152 → bytes_of m ≤ length bytes → (b : Bool) → is_balanced (word bytes m) ≡ b → judged bytes m ≡ record { code = cond b 0 6; value = 0 }
+pub judging : (bytes : List ℕ) (m : ℕ) → m ≤ 2097152 → bytes_of m ≤ length bytes → (b : Bool) →
+    is_balanced (word bytes m) ≡ b → judged bytes m ≡ record { code = cond b 0 6; value = 0 }
 judging bytes m h k true e = judged_is bytes m ∙ simp (le-ltb 2097152 m h, le-ltb (length bytes) (bytes_of m) k, e)
 judging bytes m h k false e = judged_is bytes m ∙ simp (le-ltb 2097152 m h, le-ltb (length bytes) (bytes_of m) k, e)
 
 -- code 0 exactly where m is within the limit, the bytes are there, and some forest encodes to the word
 pub accepted_iff : (bytes : List ℕ) (m : ℕ) → ((judged bytes m).code ≡ 0) ↔ Accepted bytes m
-accepted_iff bytes m = (to, λ a. ap (λ (r : Outcome). r.code) (judging bytes m a.short a.lent true ((is_balanced_iff (word bytes m)).1 a.balanced)))
+accepted_iff bytes m = (
+  to,
+  λ a. ap (λ (r : Outcome). r.code) (judging bytes m a.short a.lent true ((is_balanced_iff (word bytes m)).1 a.balanced)),
+)
   where
     to : (judged bytes m).code ≡ 0 → Accepted bytes m
     to e =
@@ -57,7 +61,8 @@ odd_unbalanced bytes m o = not_true (is_balanced (word bytes m)) (λ e.
     let b = (is_balanced_iff (word bytes m)).0 e in
     omega (arith, size_length b.0, ap length b.1, length_bits bytes 0 m))
 
-pub odd_refused : (bytes : List ℕ) (m : ℕ) → m % 2 ≡ 1 → m ≤ 2097152 → bytes_of m ≤ length bytes → judged bytes m ≡ record { code = 6; value = 0 }
+pub odd_refused : (bytes : List ℕ) (m : ℕ) → m % 2 ≡ 1 → m ≤ 2097152 →
+    bytes_of m ≤ length bytes → judged bytes m ≡ record { code = 6; value = 0 }
 odd_refused bytes m o h k = judging bytes m h k false (odd_unbalanced bytes m o)
 
 -- "The empty forest is accepted."

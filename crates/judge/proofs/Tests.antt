@@ -32,8 +32,10 @@ module _ (bytes : List ℕ) (m : ℕ) (s : Summary) (h : m ≤ 2097152) (e : s �
   -- D ends at 0: the least decides
   pub by_least : of_z w32 s.total ≡ 0 → le_z (pos 0) (rb s.least) ≡ is_balanced (word bytes m)
   by_least t =
-      let total : (summary_of (word bytes m)).total ≡ pos 0 = ap (λ (x : Summary). x.total) (sym whole) ∙ of_z_eq s.total (pos 0) (small s.total bounded.total) (sfits_lit tt) t in
-      let least : rb s.least ≡ (summary_of (word bytes m)).least = to_z-of_z (small s.least bounded.least) ∙ ap (λ (x : Summary). x.least) whole in
+      let total : (summary_of (word bytes m)).total ≡ pos 0 =
+      ap (λ (x : Summary). x.total) (sym whole) ∙ of_z_eq s.total (pos 0) (small s.total bounded.total) (sfits_lit tt) t in
+      let least : rb s.least ≡ (summary_of (word bytes m)).least =
+      to_z-of_z (small s.least bounded.least) ∙ ap (λ (x : Summary). x.least) whole in
       rw least (by_test (le_z (pos 0) (summary_of (word bytes m)).least)
       (λ y. y ∙ sym ((is_balanced_summary (word bytes m)).1 (total, omega zarith)))
       (λ n. n ∙ sym (not_true (is_balanced (word bytes m)) (λ b. omega (zarith, ((is_balanced_summary (word bytes m)).0 b).1)))))
@@ -41,4 +43,5 @@ module _ (bytes : List ℕ) (m : ℕ) (s : Summary) (h : m ≤ 2097152) (e : s �
   -- D ends elsewhere
   pub by_total : (of_z w32 s.total ≡ 0 → ⊥) → eqb (of_z w32 s.total) 0 ≡ is_balanced (word bytes m)
   by_total n = ne_eqb (of_z w32 s.total) 0 n
-      ∙ sym (not_true (is_balanced (word bytes m)) (λ b. n (ap (of_z w32) (ap (λ (x : Summary). x.total) whole ∙ ((is_balanced_summary (word bytes m)).0 b).0))))
+      ∙ sym (not_true (is_balanced (word bytes m))
+      (λ b. n (ap (of_z w32) (ap (λ (x : Summary). x.total) whole ∙ ((is_balanced_summary (word bytes m)).0 b).0))))

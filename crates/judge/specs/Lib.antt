@@ -1,3 +1,4 @@
 pub mod First
 pub mod Judge
+pub mod Numbered
 pub mod Refusal

@@ -2,7 +2,8 @@
 use Rattle.std.specs.Prelude.{ℕ, ⊤}
 use Rattle.std.specs.Prelude.{Result, Ok, Err}
 use Rattle.judge.specs.declared.refusal.Refusal.{Refusal}
-use Rattle.judge.specs.declared.refusal.Refusal.TheVariants.{TooLong, TooFewBytes, TooFewNumbers, NotThrees, TooLittleRoom, Unbalanced, Differs, NoRoomForText}
+use Rattle.judge.specs.declared.refusal.Refusal.TheVariants.{TooLong, TooFewBytes, TooFewNumbers, NotThrees}
+use Rattle.judge.specs.declared.refusal.Refusal.TheVariants.{TooLittleRoom, Unbalanced, Differs}
 use Rattle.judge.specs.declared.Outcome.{Outcome}
 
 abbrev pub number_of : Refusal → ℕ
@@ -13,7 +14,6 @@ number_of NotThrees = 4
 number_of TooLittleRoom = 5
 number_of Unbalanced = 6
 number_of Differs = 7
-number_of NoRoomForText = 36
 
 -- "Code 0 means no refusal"
 abbrev pub code_of : {A : Type 0} → Result A Refusal → ℕ

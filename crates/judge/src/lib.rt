@@ -13,7 +13,7 @@ use word::Row;
 
 mod refusal;
 
-// What an entry point gives back: a refusal's number or 0, and the number that the call names beside it.
+// What a call gives back to C, which has no `Result`: a refusal's number or 0, and the number that the call names beside it.
 #[repr(C)]
 #[derive(Clone, Copy)]
 pub struct Outcome {

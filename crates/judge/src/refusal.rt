@@ -1,4 +1,4 @@
-// Why a call is refused, each by the number that document 01 gives it. A call gives the first that holds.
+// Why a call is refused, each by the number that document 01 gives it. A call gives the first that holds of those that it checks.
 ghost use Rattle.std.specs.Prelude.{◌≡◌};
 ghost use Rattle.judge.specs.Refusal.{number_of};
 
@@ -18,8 +18,6 @@ pub enum Refusal {
     Unbalanced = 6,
     // "one of the 8L index numbers differs"
     Differs = 7,
-    // fewer bytes lent than 1,024 lines may take
-    NoRoomForText = 36,
 }
 
 impl From<Refusal> for u32 {

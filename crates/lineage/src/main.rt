@@ -6,7 +6,8 @@ ghost use Rattle.std.specs.Prelude.{◌≤◌, length, IfOk};
 use std::io;
 use std::io::Read;
 
-// Reads until `buf` is full or the input ends: how many bytes it put at the front of `buf`.
+// Reads until `buf` is full or the input ends: how many bytes it put at the front of `buf`. `read_exact` would not tell how many, and
+// `read_to_end` fills a `Vec`, on the heap.
 fn read_full(input: &mut impl Read, buf: &mut [u8]) -> io::Result<usize>
     ensures { IfOk result (λ n. n ≤ length buf.new) }
 {

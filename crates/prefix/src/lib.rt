@@ -9,17 +9,8 @@ ghost use Rattle.summary.specs.Stretch.{depth_of};
 ghost use Rattle.index.specs.Shape.{height};
 ghost use Rattle.walk.specs.Walk.{told};
 ghost use Rattle.walk.specs.Prefix.{prefix};
-ghost use Rattle.prefix.specs.Rise.{Stands, Risen};
 
-use walk::{Counted, Lineage};
-
-// The climb's state: the entry, the depth of p from its start, and the reads.
-#[derive(Clone, Copy)]
-pub struct Rise {
-    pub entry: usize,
-    pub depth: i64,
-    pub reads: u32,
-}
+use walk::{Counted, Lineage, Walk};
 
 // The depth at bit `to`, from bit `from`: "scanning bits doesn't" count.
 fn depth_of(bytes: &[u8], from: usize, to: usize) -> i64
@@ -29,38 +20,23 @@ fn depth_of(bytes: &[u8], from: usize, to: usize) -> i64
     i64::from(table::stretch(bytes, from, to).total)
 }
 
-impl Rise {
-    // "reading k-1 at each odd entry above 1", then to the entry above.
-    fn up(self, index: &[i32]) -> Rise
-        requires { Stands index.now self }
-        ensures { Risen index.now self result }
-    {
-        let k = self.entry;
-        let seen = walk::before(index, k, self.reads);
-        Rise {
-            entry: k / 2,
-            depth: self.depth + i64::from(seen.value.total),
-            reads: seen.reads,
-        }
-    }
-}
-
 // "Climb from block p/256, reading k-1 at each odd entry above 1.": D(p), and the entries read.
 pub fn prefix(lineage: &Lineage<'_>, p: usize) -> Counted<i64>
     requires { p < lineage.now.row.m }
     ensures { told result ≡ prefix (height lineage.now.row.m) (word_of lineage.now.row) p }
 {
     let b = p / 256;
-    let mut v = Rise {
+    // Here `want` is the depth gathered: that of p from the start of the entry.
+    let mut w = Walk {
         entry: lineage.l + b,
-        depth: depth_of(lineage.row.bytes, 256 * b, p),
+        want: depth_of(lineage.row.bytes, 256 * b, p),
         reads: 0,
     };
-    while v.entry > 1 {
-        v = v.up(lineage.index);
+    while w.entry > 1 {
+        w = w.more(w.entry / 2, walk::before(lineage.index, w.entry, w.reads));
     }
     Counted {
-        value: v.depth,
-        reads: v.reads,
+        value: w.want,
+        reads: w.reads,
     }
 }

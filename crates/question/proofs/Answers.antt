@@ -54,7 +54,8 @@ module _ (w : List Bool) (balanced : is_balanced w ≡ true) where
 
     -- it always finds the boundary where the branch ends
     pub ends_some : (forward h w a (pos 0)).0 ≡ none → ⊥
-    ends_some e = answers.forward_some f a opens' (on_forest w balanced (λ u. NoForward u a (pos 0)) (forward_none h w (over w) a (pos 0) inside e))
+    ends_some e = answers.forward_some f a opens'
+        (on_forest w balanced (λ u. NoForward u a (pos 0)) (forward_none h w (over w) a (pos 0) inside e))
 
     module _ (q n : ℕ) (past : (forward h w a (pos 0)).0 ≡ some q) (reads : (forward h w a (pos 0)).1 ≡ n) where
       ends : Forward (encode f) a (pos 0) q
@@ -77,7 +78,8 @@ module _ (w : List Bool) (balanced : is_balanced w ≡ true) where
       pub next_sibling_is : answer (found (cond (get_or w q false) (some q) none)) n ≡ answer_to w (NextSibling a)
       unfolding reply_of reads_of
       next_sibling_is = answer_is w (NextSibling a) (found (cond (get_or w q false) (some q) none)) n
-          (ap found (answers.next_sibling_by f a opens' q ends ∙ ap (λ u. cond (get_or u q false) (some q) none) (forest_is w balanced))) reads
+          (ap found (answers.next_sibling_by f a opens' q ends
+          ∙ ap (λ u. cond (get_or u q false) (some q) none) (forest_is w balanced))) reads
 
       pub holds_is : (b : ℕ) → get_or w b false ≡ true → answer (gives (cond (leb a b && ltb b q) 1 0)) n ≡ answer_to w (Holds a b)
       unfolding reply_of reads_of
@@ -88,7 +90,8 @@ module _ (w : List Bool) (balanced : is_balanced w ≡ true) where
     pub first_child_is : answer (found (cond (get_or w (suc a) false) (some (suc a)) none)) 0 ≡ answer_to w (FirstChild a)
     unfolding reply_of reads_of
     first_child_is = answer_is w (FirstChild a) (found (cond (get_or w (suc a) false) (some (suc a)) none)) 0
-        (ap found (answers.first_child_by f a opens' ∙ ap (λ u. cond (get_or u (suc a) false) (some (suc a)) none) (forest_is w balanced))) refl
+        (ap found (answers.first_child_by f a opens'
+        ∙ ap (λ u. cond (get_or u (suc a) false) (some (suc a)) none) (forest_is w balanced))) refl
 
     -- ---- kinds 6 and 7: the backward walk from a node
     pub ancestor_self_is : answer (gives a) 0 ≡ answer_to w (Ancestor a 0)
@@ -97,16 +100,19 @@ module _ (w : List Bool) (balanced : is_balanced w ≡ true) where
 
     up : (b : ℕ) → 0 < b → (o : Option ℕ) → (backward h w a (neg_ℤ (pos b))).0 ≡ o → ancestor f a b ≡ o
     up b l none e = answers.ancestor_none f a opens' b l
-        (on_forest w balanced (λ u. NoBackward u a (neg_ℤ (pos b))) (backward_none h w (over w) a (neg_ℤ (pos b)) (omega (arith, inside)) e))
+        (on_forest w balanced (λ u. NoBackward u a (neg_ℤ (pos b)))
+        (backward_none h w (over w) a (neg_ℤ (pos b)) (omega (arith, inside)) e))
     up b l (some p) e = answers.ancestor_by f a opens' b p l
-        (on_forest w balanced (λ u. Backward u a (neg_ℤ (pos b)) p) (backward_some h w (over w) a (neg_ℤ (pos b)) (omega (arith, inside)) p e))
+        (on_forest w balanced (λ u. Backward u a (neg_ℤ (pos b)) p)
+        (backward_some h w (over w) a (neg_ℤ (pos b)) (omega (arith, inside)) p e))
 
     pub parent_is : (r : Reach) → backward h w a (negsuc 0) ≡ r → answer (found r.0) r.1 ≡ answer_to w (Parent a)
     unfolding reply_of reads_of parent
     parent_is r e = answer_is w (Parent a) (found r.0) r.1
         (ap found (up 1 (omega arith) r.0 (ap (λ (x : Reach). x.0) e))) (ap (λ (x : Reach). x.1) e)
 
-    pub ancestor_is : (b : ℕ) → (b ≡ 0 → ⊥) → (r : Reach) → backward h w a (neg_ℤ (pos b)) ≡ r → answer (found r.0) r.1 ≡ answer_to w (Ancestor a b)
+    pub ancestor_is : (b : ℕ) → (b ≡ 0 → ⊥) → (r : Reach) → backward h w a (neg_ℤ (pos b)) ≡ r →
+        answer (found r.0) r.1 ≡ answer_to w (Ancestor a b)
     unfolding reply_of reads_of
     ancestor_is b l r e = answer_is w (Ancestor a b) (found r.0) r.1 (ap found (up b (omega (arith, l)) r.0 (ap (λ (x : Reach). x.0) e)))
         (ap (λ t. cond t 0 (backward h w a (neg_ℤ (pos b))).1) (ne_eqb b 0 l) ∙ ap (λ (x : Reach). x.1) e)

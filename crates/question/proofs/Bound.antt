@@ -25,7 +25,8 @@ use Rattle.walk.proofs.Prefix.{prefix_reads}
 use Rattle.walk.proofs.Select.{select_reads}
 use Rattle.walk.proofs.Range.{range_reads}
 use Rattle.question.specs.declared.Question.{Question}
-use Rattle.question.specs.declared.Question.TheVariants.{Depth, Number, WithNumber, Closing, Opening, Parent, Ancestor, Branch, Children, FirstChild, NextSibling, Nearest, Lowest, Holds}
+use Rattle.question.specs.declared.Question.TheVariants.{Depth, Number, WithNumber, Closing, Opening, Parent, Ancestor}
+use Rattle.question.specs.declared.Question.TheVariants.{Branch, Children, FirstChild, NextSibling, Nearest, Lowest, Holds}
 use Rattle.question.specs.Decode.{decode_of}
 use Rattle.question.specs.Reads.{or_zero, reads_of, reads_to, nearest_reads, lowest_reads}
 use Rattle.question.specs.Places.{IsNode, Sound}
@@ -61,7 +62,8 @@ module _ (w : List Bool) (balanced : is_balanced w ≡ true) where
   unfolding reads_of
   reads_few (Depth a) n = omega (arith, prefix_reads h w over a n.below)
   reads_few (Number a) n = omega (arith, prefix_reads h w over a n.below)
-  reads_few (WithNumber r) n = at_most (ltb r (length w / 2)) (select h w r).1 0 (4 * h) (omega (arith, select_reads h w over r)) (omega arith)
+  reads_few (WithNumber r) n = at_most (ltb r (length w / 2)) (select h w r).1 0 (4 * h)
+      (omega (arith, select_reads h w over r)) (omega arith)
   reads_few (Closing a) n = omega (arith, forward_reads h w over a (pos 0) n.below)
   reads_few (Opening a) n = omega (arith, backward_reads h w over (suc a) (pos 0) n.below)
   reads_few (Parent a) n = omega (arith, backward_reads h w over a (negsuc 0) (omega (arith, n.below)))

@@ -95,7 +95,8 @@ module _ (w : List Bool) (balanced : is_balanced w ≡ true) (a q n : ℕ) (open
       pub between : (suc a < q - 1) × (q - 1 ≤ length w)
       between = (omega (arith, opens_longer w a q opens ends o), omega (arith, ends.within))
 
-      pub children_some : (s : Summary) (k : ℕ) → range h w (suc a) (q - 1) ≡ (s, k) → answer (gives (P s.count)) (n + k) ≡ answer_to w (Children a)
+      pub children_some : (s : Summary) (k : ℕ) → range h w (suc a) (q - 1) ≡ (s, k) →
+          answer (gives (P s.count)) (n + k) ≡ answer_to w (Children a)
       unfolding reply_of reads_of
       children_some s k e = answer_is w (Children a) (gives (P s.count)) (n + k)
           (ap found (kids.answer ∙ ap some (sym (counts s (ap (λ (x : Summary × ℕ). x.0) e)))))
@@ -108,4 +109,5 @@ module _ (w : List Bool) (balanced : is_balanced w ≡ true) (a q n : ℕ) (open
               ∙ rooted kids.kids (λ z. omega (arith, opens_longer w a q opens ends o, kids.leaf.0 z))
             where
               bits : take (q - 1 - suc a) (drop (suc a) w) ≡ encode kids.kids
-              bits = ap₂ (λ i u. take (i - suc a) (drop (suc a) u)) (let z : q - 1 ≡ pred q = omega arith in z) (sym (forest_is w balanced)) ∙ kids.bits
+              bits = ap₂ (λ i u. take (i - suc a) (drop (suc a) u)) (let z : q - 1 ≡ pred q = omega arith in z) (sym (forest_is w balanced))
+                  ∙ kids.bits

@@ -2,6 +2,7 @@
 -- Assumes nothing.
 use mathlib.Core.Path.{◌≡◌, refl, ap}
 use mathlib.Core.Logic.{◌↔◌}
+use mathlib.Core.Bool.{Bool}
 use mathlib.Core.List.{List}
 use mathlib.Core.Option.{Option, none, some}
 use Prim.Native.Nat.{ℕ, ◌≤◌}
@@ -19,17 +20,22 @@ pub missing : (o : Option ℕ) → ((found o).code ≡ 16) ↔ (o ≡ none)
 missing none = ((λ e. refl), λ e. refl)
 missing (some r) = ((λ e. let z : ◌≡◌ {A = ℕ} 0 16 = e in absurd (omega arith)), λ e. cc)
 
+-- "Codes 11 to 15 give result 0 and reads 0"
+pub refused_zeros : (w : List Bool) (c : ℕ) → answer_decoded w (Err c) ≡ record { code = c; result = 0; reads = 0 }
+refused_zeros w c = refl
+
+-- a refusal's number is 11 to 15, so that none is taken for a 16
+pub refused_early : (w : List Bool) (kind a b : ℕ) {c : ℕ} → decode_of w kind a b ≡ Err c → (11 ≤ c) × (c ≤ 15)
+refused_early w kind a b = decode_early w kind a b
+
 module _ (bytes : List ℕ) (m kind a b : ℕ) where
   -- a question's own answer
   pub question_answer : {q : Question} → decode_of (word bytes m) kind a b ≡ Ok q → answer_of bytes m kind a b ≡ answer_to (word bytes m) q
   unfolding answer_of answer_to
   question_answer e = ap (answer_decoded (word bytes m)) e
 
-  -- "Codes 11 to 15 give result 0 and reads 0"
-  pub refused_zeros : {c : ℕ} → decode_of (word bytes m) kind a b ≡ Err c → answer_of bytes m kind a b ≡ record { code = c; result = 0; reads = 0 }
+  -- and a refused one's
+  pub refused_answer : {c : ℕ} → decode_of (word bytes m) kind a b ≡ Err c →
+      answer_of bytes m kind a b ≡ record { code = c; result = 0; reads = 0 }
   unfolding answer_of
-  refused_zeros e = ap (answer_decoded (word bytes m)) e
-
-  -- a refusal's number is 11 to 15, so that none is taken for a 16
-  pub refused_early : {c : ℕ} → decode_of (word bytes m) kind a b ≡ Err c → (11 ≤ c) × (c ≤ 15)
-  refused_early = decode_early (word bytes m) kind a b
+  refused_answer e = ap (answer_decoded (word bytes m)) e

@@ -14,7 +14,8 @@ use Rattle.word.specs.Forest.{Forest, encode}
 use Rattle.word.specs.Parse.{is_balanced, forest_of}
 use Rattle.word.specs.Questions.{number, ancestor, branch, nearest, holds}
 use Rattle.word.proofs.Depth.{bit_in}
-use Rattle.word.proofs.Demands.{and_then, meet, climb_climb, ancestor_node, nearest_node, meet_assoc, nearest_comm, nearest_self, holds_nearest, holds_run}
+use Rattle.word.proofs.Demands.{and_then, meet, climb_climb, ancestor_node, nearest_node}
+use Rattle.word.proofs.Demands.{meet_assoc, nearest_comm, nearest_self, holds_nearest, holds_run}
 use Rattle.question.specs.declared.Question.{Question}
 use Rattle.question.specs.declared.Question.TheVariants.{Number, Ancestor, Branch, Nearest, Holds}
 use Rattle.question.specs.Decode.{node, unless, decode_of}
@@ -83,13 +84,15 @@ module _ (w : List Bool) (balanced : is_balanced w ≡ true) where
     where
       go : (x : Option ℕ) → ancestor f a j ≡ x → next (found x) (λ p. asked w 7 p k) ≡ found (ancestor f a (j + k))
       go none e = ap found (ap (λ y. and_then y (λ p. ancestor f p k)) (sym e) ∙ climb_climb f a j k)
-      go (some p) e = ancestor_of p k (node_to p (ancestor_node f a j p e)) ∙ ap found (ap (λ y. and_then y (λ p. ancestor f p k)) (sym e) ∙ climb_climb f a j k)
+      go (some p) e = ancestor_of p k (node_to p (ancestor_node f a j p e))
+          ∙ ap found (ap (λ y. and_then y (λ p. ancestor f p k)) (sym e) ∙ climb_climb f a j k)
 
   -- "The nearest shared reference of three nodes comes out the same in any pairing and order, with "none" passed on as "none""
   pub sharing_order : (a b : ℕ) → Node a → Node b → asked w 12 a b ≡ asked w 12 b a
   sharing_order a b o p = nearest_of a b o p ∙ ap found (nearest_comm f a b) ∙ sym (nearest_of b a p o)
 
-  pub sharing_pairs : (a b c : ℕ) → Node a → Node b → Node c → next (asked w 12 a b) (λ x. asked w 12 x c) ≡ next (asked w 12 b c) (λ y. asked w 12 a y)
+  pub sharing_pairs : (a b c : ℕ) → Node a → Node b → Node c →
+      next (asked w 12 a b) (λ x. asked w 12 x c) ≡ next (asked w 12 b c) (λ y. asked w 12 a y)
   sharing_pairs a b c o p q =
       ap (λ r. next r (λ x. asked w 12 x c)) (nearest_of a b o p) ∙ left (nearest f a b) refl
       ∙ ap found (meet_assoc f (some a) (some b) (some c))
@@ -115,7 +118,8 @@ module _ (w : List Bool) (balanced : is_balanced w ≡ true) where
   pub chain_sharing : (a b : ℕ) → Node a → Node b → (asked w 14 a b ≡ gives 1) ↔ (asked w 12 a b ≡ gives a)
   chain_sharing a b o p = (
     (λ e. nearest_of a b o p ∙ ap found ((holds_nearest f a b (node_of a o)).0 ((flag (holds f a b)).0 (sym (holds_of a b o p) ∙ e)))),
-    λ e. holds_of a b o p ∙ (flag (holds f a b)).1 ((holds_nearest f a b (node_of a o)).1 (found_some (nearest f a b) a (sym (nearest_of a b o p) ∙ e))),
+    λ e. holds_of a b o p ∙ (flag (holds f a b)).1 ((holds_nearest f a b (node_of a o)).1
+        (found_some (nearest f a b) a (sym (nearest_of a b o p) ∙ e))),
   )
 
   -- "and exactly when the probe's number lies in the run that starts at the reference's number and is as long as its branch"

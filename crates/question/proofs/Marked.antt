@@ -4,7 +4,8 @@ use mathlib.Core.List.{[], ◌∷◌}
 use Prim.Native.Nat.{ℕ}
 use Rattle.word.specs.Signed.{min_z, max_z, eq_z}
 use Rattle.word.specs.Parse.{parse, forest_of}
-use Rattle.word.specs.Questions.{depth, number, with_number, closing_of, opening_of, parent, ancestor, branch, children, first_child, next_sibling, nearest, lowest, holds}
+use Rattle.word.specs.Questions.{depth, number, with_number, closing_of, opening_of, parent, ancestor}
+use Rattle.word.specs.Questions.{branch, children, first_child, next_sibling, nearest, lowest, holds}
 use Rattle.summary.specs.Stretch.{depth_of, depths, least_of, greatest_of, how_many, summary_of}
 use Rattle.summary.specs.Join.{empty_of, at, joined, join_of}
 use Rattle.index.specs.Shape.{height_from, height, entry, entry_by}
@@ -29,6 +30,11 @@ gives code result = record { code = code; result = result; reads = 0 }
 
 pub marked : asked 1 4 0 ∷ asked 2 6 0 ∷ asked 3 3 0 ∷ asked 4 3 0 ∷ asked 6 10 0 ∷ asked 7 6 2
     ∷ asked 7 6 3 ∷ asked 9 0 0 ∷ asked 12 3 6 ∷ asked 12 0 10 ∷ asked 13 2 8 ∷ asked 13 0 12 ∷ []
-    ≡ gives 0 2 ∷ gives 0 4 ∷ gives 0 4 ∷ gives 0 8 ∷ gives 16 0 ∷ gives 0 0 ∷ gives 16 0 ∷ gives 0 2 ∷ gives 0 3 ∷ gives 16 0 ∷ gives 0 3 ∷ gives 0 0 ∷ []
-unfolding depth number with_number closing_of opening_of parent ancestor branch children first_child next_sibling nearest lowest holds min_z max_z eq_z parse forest_of depth_of depths least_of greatest_of how_many summary_of empty_of at joined join_of height_from height entry entry_by first final nth climb descend forward climb_back descend_back backward prefix_up prefix select_down select range_up range decode_of reply_of reads_of answer_to answer_of
+    ≡ gives 0 2 ∷ gives 0 4 ∷ gives 0 4 ∷ gives 0 8 ∷ gives 16 0 ∷ gives 0 0
+    ∷ gives 16 0 ∷ gives 0 2 ∷ gives 0 3 ∷ gives 16 0 ∷ gives 0 3 ∷ gives 0 0 ∷ []
+unfolding depth number with_number closing_of opening_of parent ancestor branch children first_child next_sibling nearest lowest holds
+    min_z max_z eq_z parse forest_of depth_of depths least_of greatest_of how_many
+    summary_of empty_of at joined join_of height_from height entry entry_by
+    first final nth climb descend forward climb_back descend_back backward prefix_up prefix select_down select
+    range_up range decode_of reply_of reads_of answer_to answer_of
 marked = refl

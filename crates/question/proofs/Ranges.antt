@@ -188,14 +188,17 @@ module _ (w : List Bool) (balanced : is_balanced w ≡ true) where
       module _ (above : le_z (pos 1) s.least ≡ false) where
         nearest_at : (o : Option ℕ) → (backward h w a (s.least -ℤ pos 1)).0 ≡ o → nearest f a b ≡ o
         nearest_at none e = answers.nearest_none f a b oa' ob' s.least l least' (omega zarith)
-            (on_forest w balanced (λ u. NoBackward u a (s.least -ℤ pos 1)) (backward_none h w (over w) a (s.least -ℤ pos 1) (omega arith) e))
+            (on_forest w balanced (λ u. NoBackward u a (s.least -ℤ pos 1))
+            (backward_none h w (over w) a (s.least -ℤ pos 1) (omega arith) e))
         nearest_at (some p) e = answers.nearest_by f a b oa' ob' s.least l least' (omega zarith) p
-            (on_forest w balanced (λ u. Backward u a (s.least -ℤ pos 1) p) (backward_some h w (over w) a (s.least -ℤ pos 1) (omega arith) p e))
+            (on_forest w balanced (λ u. Backward u a (s.least -ℤ pos 1) p)
+            (backward_some h w (over w) a (s.least -ℤ pos 1) (omega arith) p e))
 
         pub nearest_is : (x : Reach) → backward h w a (s.least -ℤ pos 1) ≡ x → answer (found x.0) (n + x.1) ≡ answer_to w (Nearest a b)
         unfolding reply_of reads_of
         nearest_is x e = answer_is w (Nearest a b) (found x.0) (n + x.1) (ap found (nearest_at x.0 (ap (λ (y : Reach). y.0) e)))
-            (in_order ∙ walks (λ x. (backward h w a (x.least -ℤ pos 1)).1) (λ x. le_z (pos 1) x.least) above x.1 (ap (λ (y : Reach). y.1) e))
+            (in_order ∙ walks (λ x. (backward h w a (x.least -ℤ pos 1)).1) (λ x. le_z (pos 1) x.least)
+            above x.1 (ap (λ (y : Reach). y.1) e))
 
   -- kind 12 is the same in either order, and a node's with itself is the node
   pub nearest_swap : (a b : ℕ) → (a ≡ b → ⊥) → answer_to w (Nearest a b) ≡ answer_to w (Nearest b a)
@@ -214,4 +217,5 @@ module _ (w : List Bool) (balanced : is_balanced w ≡ true) where
 
   pub lowest_itself : (a : ℕ) → answer (gives a) 0 ≡ answer_to w (Lowest a a)
   unfolding reply_of reads_of lowest
-  lowest_itself a = answer_is w (Lowest a a) (gives a) 0 (ap (λ i. gives (lowest w a i)) (let z : a - a ≡ 0 = omega arith in z)) (rw (eq-eqb a a refl))
+  lowest_itself a = answer_is w (Lowest a a) (gives a) 0 (ap (λ i. gives (lowest w a i)) (let z : a - a ≡ 0 = omega arith in z))
+      (rw (eq-eqb a a refl))

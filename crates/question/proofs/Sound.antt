@@ -11,7 +11,8 @@ use lib.ListN.{length, get_or}
 use Rattle.std.specs.Prelude.{Result, Ok, Err, MatchResult}
 use Rattle.std.proofs.lemmas.Result.{MatchResult-at_ok, MatchResult-at_err}
 use Rattle.question.specs.declared.Question.{Question}
-use Rattle.question.specs.declared.Question.TheVariants.{Depth, Number, Closing, Opening, Parent, Ancestor, Branch, Children, FirstChild, NextSibling, Nearest, Lowest, Holds}
+use Rattle.question.specs.declared.Question.TheVariants.{Depth, Number, Closing, Opening, Parent, Ancestor, Branch}
+use Rattle.question.specs.declared.Question.TheVariants.{Children, FirstChild, NextSibling, Nearest, Lowest, Holds}
 use Rattle.question.specs.Places.{IsNode, IsClosing, Sound}
 use Rattle.question.specs.Decode.{Checks, node, closing, boundaries, unless, decode_of}
 
@@ -27,7 +28,8 @@ module _ (w : List Bool) where
   Decoded d = MatchResult d (Sound w) Early
 
   -- a check that holds refuses, and one that fails is known to have failed
-  by_check : (t : Bool) (c : ℕ) (rest : Checks) (q : Question) → Early (suc c) → (t ≡ false → Decoded (unless rest q)) → Decoded (unless ((t, suc c) ∷ rest) q)
+  by_check : (t : Bool) (c : ℕ) (rest : Checks) (q : Question) → Early (suc c) → (t ≡ false → Decoded (unless rest q)) →
+      Decoded (unless ((t, suc c) ∷ rest) q)
   by_check true c rest q l k = l
   by_check false c rest q l k = k refl
 

@@ -2,7 +2,8 @@
 use Rattle.std.specs.Prelude.{Bool, true, false, cond, not, List, [], ◌∷◌, ℕ, zero, suc, ltb, eqb, length, get_or, Result, Ok, Err}
 use Rattle.judge.specs.First.{first_of}
 use Rattle.question.specs.declared.Question.{Question}
-use Rattle.question.specs.declared.Question.TheVariants.{Depth, Number, WithNumber, Closing, Opening, Parent, Ancestor, Branch, Children, FirstChild, NextSibling, Nearest, Lowest, Holds}
+use Rattle.question.specs.declared.Question.TheVariants.{Depth, Number, WithNumber, Closing, Opening, Parent, Ancestor}
+use Rattle.question.specs.declared.Question.TheVariants.{Branch, Children, FirstChild, NextSibling, Nearest, Lowest, Holds}
 
 -- a check that fails, and its number
 abbrev pub Checks : Type 0

@@ -1,5 +1,5 @@
--- The numbers of a question's faults, and what a question comes to where its fault is told by number.
-use Rattle.std.specs.Prelude.{ℕ, Result, Ok, Err}
+-- The numbers of a question's faults.
+use Rattle.std.specs.Prelude.{ℕ}
 use Rattle.question.specs.declared.fault.Fault.{Fault}
 use Rattle.question.specs.declared.fault.Fault.TheVariants.{UnknownKind, NoPlace, NotOpening, NotClosing, Reversed, NoNode}
 
@@ -11,7 +11,3 @@ number_of NotOpening = 13
 number_of NotClosing = 14
 number_of Reversed = 15
 number_of NoNode = 16
-
-abbrev pub numbered : {A : Type 0} → Result A Fault → Result A ℕ
-numbered (Ok x) = Ok x
-numbered (Err f) = Err (number_of f)

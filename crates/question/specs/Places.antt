@@ -1,7 +1,8 @@
 -- Places that were checked: one that stands for a node, one where a node closes, and those that each question carries.
 use Rattle.std.specs.Prelude.{◌≡◌, Bool, true, false, List, ℕ, ◌≤◌, ◌<◌, length, get_or}
 use Rattle.question.specs.declared.Question.{Question}
-use Rattle.question.specs.declared.Question.TheVariants.{Depth, Number, WithNumber, Closing, Opening, Parent, Ancestor, Branch, Children, FirstChild, NextSibling, Nearest, Lowest, Holds}
+use Rattle.question.specs.declared.Question.TheVariants.{Depth, Number, WithNumber, Closing, Opening, Parent, Ancestor}
+use Rattle.question.specs.declared.Question.TheVariants.{Branch, Children, FirstChild, NextSibling, Nearest, Lowest, Holds}
 
 -- "A node is named by the place of its opening bit."
 pub record IsNode (w : List Bool) (a : ℕ) : Type 0 where

@@ -1,5 +1,6 @@
 -- How many index entries a question reads: those of the walks that document 01's table names for its kind.
-use Rattle.std.specs.Prelude.{Bool, false, cond, List, ℕ, suc, ◌+◌, ◌-◌, ◌/◌, min, max, eqb, ltb, length, get_or, pos, negsuc, neg_ℤ, ◌-ℤ◌, Result, Ok, Err}
+use Rattle.std.specs.Prelude.{Bool, false, cond, List, ℕ, suc, ◌+◌, ◌-◌, ◌/◌, min, max, eqb}
+use Rattle.std.specs.Prelude.{ltb, length, get_or, pos, negsuc, neg_ℤ, ◌-ℤ◌, Result, Ok, Err}
 use Rattle.std.proofs.Math.Option.{Option, none, some}
 use Rattle.std.specs.Int.Signed.{le_z}
 use Rattle.walk.specs.Walk.{Reach}
@@ -9,7 +10,8 @@ use Rattle.walk.specs.Prefix.{prefix}
 use Rattle.walk.specs.Select.{select}
 use Rattle.walk.specs.Range.{range}
 use Rattle.question.specs.declared.Question.{Question}
-use Rattle.question.specs.declared.Question.TheVariants.{Depth, Number, WithNumber, Closing, Opening, Parent, Ancestor, Branch, Children, FirstChild, NextSibling, Nearest, Lowest, Holds}
+use Rattle.question.specs.declared.Question.TheVariants.{Depth, Number, WithNumber, Closing, Opening, Parent, Ancestor}
+use Rattle.question.specs.declared.Question.TheVariants.{Branch, Children, FirstChild, NextSibling, Nearest, Lowest, Holds}
 
 abbrev pub or_zero : Option ℕ → ℕ
 or_zero none = 0

@@ -3,9 +3,11 @@ use Rattle.std.specs.Prelude.{Bool, cond, List, ℕ, ◌-◌, Result, Ok, Err}
 use Rattle.std.proofs.Math.Option.{Option, none, some}
 use Rattle.word.specs.Forest.{Forest}
 use Rattle.word.specs.Parse.{forest_of}
-use Rattle.word.specs.Questions.{depth, number, with_number, closing_of, opening_of, parent, ancestor, branch, children, first_child, next_sibling, nearest, lowest, holds}
+use Rattle.word.specs.Questions.{depth, number, with_number, closing_of, opening_of, parent, ancestor}
+use Rattle.word.specs.Questions.{branch, children, first_child, next_sibling, nearest, lowest, holds}
 use Rattle.question.specs.declared.Question.{Question}
-use Rattle.question.specs.declared.Question.TheVariants.{Depth, Number, WithNumber, Closing, Opening, Parent, Ancestor, Branch, Children, FirstChild, NextSibling, Nearest, Lowest, Holds}
+use Rattle.question.specs.declared.Question.TheVariants.{Depth, Number, WithNumber, Closing, Opening, Parent, Ancestor}
+use Rattle.question.specs.declared.Question.TheVariants.{Branch, Children, FirstChild, NextSibling, Nearest, Lowest, Holds}
 
 -- code and result
 pub record Reply : Type 0 where

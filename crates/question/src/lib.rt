@@ -3,8 +3,9 @@
 
 ghost use Rattle.std.specs.Prelude.{◌≡◌, []};
 ghost use Rattle.word.specs.Row.{word_of};
+ghost use Rattle.judge.specs.Numbered.{numbered};
 ghost use Rattle.question.specs.Decode.{node, closing, boundaries, unless, decode_of};
-ghost use Rattle.question.specs.Fault.{numbered};
+ghost use Rattle.question.specs.Fault.{number_of};
 
 pub use fault::Fault;
 use word::Row;
@@ -30,10 +31,10 @@ pub enum Question {
     Holds(usize, usize),
 }
 
-// The place of a node.
+// The place of a node. `node` and `closing` stay two, as the checks are: 13 where the one is wanted, 14 where the other is.
 #[tactic(auto, using(crate::proofs::Checks::node_checks))]
 fn node(row: &Row<'_>, a: u32) -> Result<usize, Fault>
-    ensures { numbered result ≡ unless (node (word_of row.now) a []) a }
+    ensures { numbered number_of result ≡ unless (node (word_of row.now) a []) a }
 {
     let place = a as usize;
     if row.m <= place {
@@ -49,7 +50,7 @@ fn node(row: &Row<'_>, a: u32) -> Result<usize, Fault>
 // The place where a node closes.
 #[tactic(auto, using(crate::proofs::Checks::closing_checks))]
 fn closing(row: &Row<'_>, a: u32) -> Result<usize, Fault>
-    ensures { numbered result ≡ unless (closing (word_of row.now) a) a }
+    ensures { numbered number_of result ≡ unless (closing (word_of row.now) a) a }
 {
     let place = a as usize;
     if row.m <= place {
@@ -65,7 +66,7 @@ fn closing(row: &Row<'_>, a: u32) -> Result<usize, Fault>
 // Two boundaries, in order.
 #[tactic(auto, using(crate::proofs::Checks::boundary_checks))]
 fn boundaries(row: &Row<'_>, a: u32, b: u32) -> Result<(usize, usize), Fault>
-    ensures { numbered result ≡ unless (boundaries (word_of row.now) a b) (a, b) }
+    ensures { numbered number_of result ≡ unless (boundaries (word_of row.now) a b) (a, b) }
 {
     let (from, to) = (a as usize, b as usize);
     if row.m < from || row.m < to {
@@ -77,10 +78,11 @@ fn boundaries(row: &Row<'_>, a: u32, b: u32) -> Result<(usize, usize), Fault>
     Ok((from, to))
 }
 
-// "A question checks 11 to 16 in order, but argument a wholly (12 to 14) before b."
+// "A question checks 11 to 16 in order, but argument a wholly (12 to 14) before b." Questions come from C as numbers: here a kind's
+// number becomes its case, and nowhere else.
 #[tactic(auto, using(crate::proofs::Checks::asked_checks), unfolding(crate::specs::Decode::decode_of))]
 pub fn decode(row: &Row<'_>, kind: u32, a: u32, b: u32) -> Result<Question, Fault>
-    ensures { numbered result ≡ decode_of (word_of row.now) kind a b }
+    ensures { numbered number_of result ≡ decode_of (word_of row.now) kind a b }
 {
     Ok(match kind {
         1 => Question::Depth(node(row, a)?),

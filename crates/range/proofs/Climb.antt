@@ -51,7 +51,8 @@ module _ (e : ℕ → Summary) (k r : ℕ) (x y : Summary) (n : ℕ) where
       (λ v. by_test (even r) (λ u. rw (v, u) (omega arith)) (λ u. rw (v, u) (omega arith)))
 
   at_step : (s g : ℕ) → Small g x → (k / 2 ≡ r / 2 → ⊥)
-      → range_up e (suc s) k r x y n ≡ range_up e s (k / 2) (r / 2) (join_of x (after_of e k n).value) (join_of (before_of e r (after_of e k n).reads).value y) (before_of e r (after_of e k n).reads).reads
+      → range_up e (suc s) k r x y n ≡ range_up e s (k / 2) (r / 2) (join_of x (after_of e k n).value)
+      (join_of (before_of e r (after_of e k n).reads).value y) (before_of e r (after_of e k n).reads).reads
   unfolding range_up
   at_step s g p d = rw (ne_eqb (k / 2) (r / 2) d, left_is g p, right_is (after_of e k n).reads, reads_are)
 
@@ -82,16 +83,27 @@ module _ (lin : Lineage) (a b : ℕ) where
 
   module _ (o : a < b) (p : b ≤ lin.row.m) where
     -- "Within one block, scan."
-    pub near : (x : Summary) → a / 256 ≡ (b - 1) / 256 → x ≡ summary_of (bits lin.row.bytes.now a (b - a)) → (x, 0) ≡ range (height lin.row.m) (word_of lin.row) a b
+    pub near : (x : Summary) → a / 256 ≡ (b - 1) / 256 → x ≡ summary_of (bits lin.row.bytes.now a (b - a))
+        → (x, 0) ≡ range (height lin.row.m) (word_of lin.row) a b
     unfolding range
     near x d e = rw (eq-eqb (a / 256) ((b - 1) / 256) d, between_is lin.row.bytes.now lin.row.m a b p, e)
 
     -- "Else scan the ends"
-    module _ (x y : Summary) (d : a / 256 ≡ (b - 1) / 256 → ⊥) (e : x ≡ summary_of (bits lin.row.bytes.now a (256 * (a / 256 + 1) - a))) (i : y ≡ summary_of (bits lin.row.bytes.now (256 * ((b - 1) / 256)) (b - 256 * ((b - 1) / 256)))) where
-      begins : range_up entry_of (height lin.row.m) (lin.l + a / 256) (lin.l + (b - 1) / 256) x y 0 ≡ range (height lin.row.m) (word_of lin.row) a b
+    module _ (x y : Summary) (d : a / 256 ≡ (b - 1) / 256 → ⊥) (e : x ≡ summary_of (bits lin.row.bytes.now a (256 * (a / 256 + 1) - a)))
+        (i : y ≡ summary_of (bits lin.row.bytes.now (256 * ((b - 1) / 256)) (b - 256 * ((b - 1) / 256)))) where
+      begins : range_up entry_of (height lin.row.m) (lin.l + a / 256) (lin.l + (b - 1) / 256) x y 0
+          ≡ range (height lin.row.m) (word_of lin.row) a b
       unfolding range
       begins = let c : suc (b - 1) ≡ b = omega arith in
-          rw (ne_eqb (a / 256) ((b - 1) / 256) d, ahead_is lin.row.bytes.now lin.row.m a (256 * (a / 256 + 1)) (omega arith) (omega arith), up_to_is lin.row.bytes.now lin.row.m (b - 1) (omega arith), c, e, i, lin.lent.leaves)
+          rw (
+            ne_eqb (a / 256) ((b - 1) / 256) d,
+            ahead_is lin.row.bytes.now lin.row.m a (256 * (a / 256 + 1)) (omega arith) (omega arith),
+            up_to_is lin.row.bytes.now lin.row.m (b - 1) (omega arith),
+            c,
+            e,
+            i,
+            lin.lent.leaves,
+          )
 
       pub kept_start : Kept lin.row a b (span (lin.l + a / 256) (lin.l + (b - 1) / 256) x y 0)
       kept_start = record {
@@ -100,7 +112,11 @@ module _ (lin : Lineage) (a b : ℕ) where
         lk = rw lin.lent.leaves (leaf_level (height lin.row.m) lin.row.m a (height_reaches lin.row.m) (omega arith));
         lr = rw lin.lent.leaves (leaf_level (height lin.row.m) lin.row.m (b - 1) (height_reaches lin.row.m) (omega arith));
         order = omega arith;
-        left = record { bits = bits lin.row.bytes.now a (256 * (a / 256 + 1) - a); is = e; short = omega (arith, length_bits lin.row.bytes.now a (256 * (a / 256 + 1) - a)) };
+        left = record {
+          bits = bits lin.row.bytes.now a (256 * (a / 256 + 1) - a);
+          is = e;
+          short = omega (arith, length_bits lin.row.bytes.now a (256 * (a / 256 + 1) - a));
+        };
         right = record {
           bits = bits lin.row.bytes.now (256 * ((b - 1) / 256)) (b - 256 * ((b - 1) / 256));
           is = i;
@@ -123,14 +139,18 @@ module _ (lin : Lineage) (a b : ℕ) where
     -- entry 1 stands alone on its level: so there is one above
     module _ (f : ℕ) (lk : Level (height lin.row.m) (suc f) kept.g v.k) (lr : Level (height lin.row.m) (suc f) kept.g v.r) where
       after_own : (n : ℕ) → after_of (entry_at lin.index.now) v.k n ≡ after_of entry_of v.k n
-      after_own n = after_same (entry_at lin.index.now) v.k n entry_of (λ y. lin.lent.indexed.reads (v.k + 1) (inside (level_next lk (even_yes v.k y))))
+      after_own n = after_same (entry_at lin.index.now) v.k n entry_of
+          (λ y. lin.lent.indexed.reads (v.k + 1) (inside (level_next lk (even_yes v.k y))))
 
       before_own : (n : ℕ) → before_of (entry_at lin.index.now) v.r n ≡ before_of entry_of v.r n
-      before_own n = before_same (entry_at lin.index.now) v.r n entry_of (λ y. lin.lent.indexed.reads (v.r - 1) (inside (level_before lr (even_no v.r y))))
+      before_own n = before_same (entry_at lin.index.now) v.r n entry_of
+          (λ y. lin.lent.indexed.reads (v.r - 1) (inside (level_before lr (even_no v.r y))))
 
       joined_own : joined (entry_at lin.index.now) v ≡ joined entry_of v
-      joined_own = ap₂ (λ (s t : Counted Summary). span (v.k / 2) (v.r / 2) (join_of v.left s.value) (join_of t.value v.right) t.reads) (after_own v.reads)
-          (before_own (after_of (entry_at lin.index.now) v.k v.reads).reads ∙ ap (λ (s : Counted Summary). before_of entry_of v.r s.reads) (after_own v.reads))
+      joined_own = ap₂ (λ (s t : Counted Summary). span (v.k / 2) (v.r / 2) (join_of v.left s.value) (join_of t.value v.right) t.reads)
+          (after_own v.reads)
+          (before_own (after_of (entry_at lin.index.now) v.k v.reads).reads
+          ∙ ap (λ (s : Counted Summary). before_of entry_of v.r s.reads) (after_own v.reads))
 
       small_after : (n : ℕ) → Small kept.g (after_of entry_of v.k n).value
       small_after n = by_test (even v.k)
@@ -153,7 +173,8 @@ module _ (lin : Lineage) (a b : ℕ) where
         before = λ n. rw (before_own n) (small_bounded kept.g _ (low (suc f) kept.g lk.levels) (small_before n));
       }
 
-      on : (v.k / 2 ≡ v.r / 2 → ⊥) → v.reads + 2 * suc f ≤ 26 → range_up entry_of (suc f) v.k v.r v.left v.right v.reads ≡ range (height lin.row.m) (word_of lin.row) a b
+      on : (v.k / 2 ≡ v.r / 2 → ⊥) → v.reads + 2 * suc f ≤ 26 → range_up entry_of (suc f) v.k v.r v.left v.right v.reads
+          ≡ range (height lin.row.m) (word_of lin.row) a b
           → Kept lin.row a b (joined entry_of v)
       on d c i = record {
         f = f;

@@ -22,7 +22,8 @@ pub record Small (g : ℕ) (s : Summary) : Type 0 where
   pub short : length bits ≤ 256 * 2 ^ g
 
 pub small_bounded : (g : ℕ) (s : Summary) → g ≤ 13 → Small g s → Bounded 4194304 s
-small_bounded g s l x = rw x.is (summary_bounded 4194304 x.bits (omega (arith, x.short, pow-le-pow_right {n = 2} (omega arith) {i = g} {j = 13} l)))
+small_bounded g s l x =
+    rw x.is (summary_bounded 4194304 x.bits (omega (arith, x.short, pow-le-pow_right {n = 2} (omega arith) {i = g} {j = 13} l)))
 
 pub small_empty : (g : ℕ) → Small g empty_of
 small_empty g = record { bits = []; is = sym summary_empty; short = omega arith }

@@ -15,17 +15,17 @@ use walk::{Counted, Lineage};
 
 // The climb's state: the entries k and r, between which nothing is joined yet, what is joined on either side, and the reads.
 #[derive(Clone, Copy)]
-pub struct Span {
-    pub k: usize,
-    pub r: usize,
-    pub left: Summary,
-    pub right: Summary,
-    pub reads: u32,
+struct Span {
+    k: usize,
+    r: usize,
+    left: Summary,
+    right: Summary,
+    reads: u32,
 }
 
 impl Span {
-    // "read k+1 if k is even and r-1 if r is odd": what was read is joined to its side, "then halve both". Where nothing was read, the empty
-    // summary changes nothing.
+    // "read k+1 if k is even and r-1 if r is odd": what was read is joined to its side, "then halve both". Where nothing was read, the
+    // empty summary changes nothing.
     fn up(self, index: &[i32]) -> Span
         requires { Joins index.now self }
         ensures { result ≡ joined (entry_at index.now) self }

@@ -7,9 +7,10 @@ use lib.ListN.{length, take, replicate, length-replicate}
 use lib.Seq.{length-sets, length-take-le}
 use Rattle.std.specs.Prelude.{Result, Ok, Err}
 use Rattle.fill.proofs.Fill.{sets_front}
+use Rattle.judge.specs.Numbered.{numbered}
 use Rattle.house.specs.declared.House.{House}
 use Rattle.house.specs.declared.fault.Fault.{Fault}
-use Rattle.house.specs.Faults.{number_of, told}
+use Rattle.house.specs.Faults.{number_of}
 use Rattle.house.specs.File.{Read, read_of}
 use Rattle.house.proofs.Whole.{Whole, whole}
 use Rattle.text.specs.Text.{Put, refusal}
@@ -37,7 +38,7 @@ module _ (file : List ℕ) (word' numbers' : List ℕ) where
     numbers_long = length-replicate {A = ℕ} 3072 0
 
     house_is : (read_of file).house ≡ Ok h
-    house_is = sym read.house_is ∙ ap told ok
+    house_is = sym read.house_is ∙ ap (numbered number_of) ok
 
     all : Whole h (read_of file)
     all = whole file h house_is

@@ -11,10 +11,9 @@ use lib.Seq.{sets, length-sets}
 use Rattle.word.specs.Bits.{word}
 use Rattle.word.specs.Parse.{is_balanced}
 use Rattle.std.specs.Prelude.{Result}
-use Rattle.judge.specs.declared.refusal.Refusal.{Refusal}
+use Rattle.run.specs.declared.no_room.NoRoom.{NoRoom}
 use Rattle.judge.specs.declared.Outcome.{Outcome}
-use Rattle.judge.specs.Refusal.{outcome}
-use Rattle.judge.proofs.Told.{outcome_apart}
+use Rattle.run.specs.RanAs.{ran_as}
 use Rattle.judge.specs.Judge.{outcome_of}
 use Rattle.batch.specs.Batch.{answers_of}
 use Rattle.batch.proofs.Answers.{answers_long}
@@ -30,9 +29,16 @@ use Rattle.run.specs.Output.{refused, printed_as, output, Ran}
 pub outcome_settled : (file held : List ℕ) (r r' : Outcome) (left left' : List ℕ) → Ran file held r left → Ran file held r' left' → (r ≡ r') × (left ≡ left')
 outcome_settled file held r r' left left' p q = (p.outcome_is ∙ sym q.outcome_is, p.output_is ∙ sym q.output_is)
 
+-- no two results are told alike
+ran_apart : (r s : Result ℕ NoRoom) → ran_as r ≡ ran_as s → r ≡ s
+ran_apart (Ok n) (Ok k) e = ap Ok (ap (λ (o : Outcome). o.value) e)
+ran_apart (Ok n) (Err y) e = let z : ◌≡◌ {A = ℕ} 0 36 = ap (λ (o : Outcome). o.code) e in absurd (omega arith)
+ran_apart (Err x) (Ok k) e = let z : ◌≡◌ {A = ℕ} 36 0 = ap (λ (o : Outcome). o.code) e in absurd (omega arith)
+ran_apart (Err x) (Err y) e = refl
+
 -- and no second result
-pub settled : (file held : List ℕ) (r r' : Result ℕ Refusal) (left left' : List ℕ) → Ran file held (outcome r) left → Ran file held (outcome r') left' → (r ≡ r') × (left ≡ left')
-settled file held r r' left left' p q = let s = outcome_settled file held (outcome r) (outcome r') left left' p q in (outcome_apart r r' s.0, s.1)
+pub settled : (file held : List ℕ) (r r' : Result ℕ NoRoom) (left left' : List ℕ) → Ran file held (ran_as r) left → Ran file held (ran_as r') left' → (r ≡ r') × (left ≡ left')
+settled file held r r' left left' p q = let s = outcome_settled file held (ran_as r) (ran_as r') left left' p q in (ran_apart r r' s.0, s.1)
 
 -- the two ways it ends
 pub ends_short : (file held : List ℕ) → length held < 33792 → Ran file held (record { code = 36; value = 0 }) held

@@ -1,3 +1,4 @@
 pub mod Output
+pub mod RanAs
 pub mod Replied
 pub mod Sound

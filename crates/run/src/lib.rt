@@ -7,12 +7,17 @@ ghost use Rattle.word.specs.Bits.{bytes_of};
 ghost use Rattle.judge.specs.Refusal.{outcome};
 ghost use Rattle.text.specs.Text.{Put};
 ghost use Rattle.run.specs.Output.{answered, output, Ran};
+ghost use Rattle.run.specs.RanAs.{ran_as};
 ghost use Rattle.run.specs.Replied.{Replied};
 ghost use Rattle.run.specs.Sound.{Sound};
 
 use judge::Refusal;
+pub use no_room::NoRoom;
 
-// The answers of a sound file's questions, over the front of `answers`, from an index built here.
+mod no_room;
+
+// The answers of a sound file's questions, over the front of `answers`, from an index built here. Bytes and m are handed on as the calls
+// take them.
 fn ask(bytes: &[u8], m: u32, numbers: &[u32], answers: &mut [u32]) -> Result<usize, Refusal>
     requires { (m ≤ 65536) × (bytes_of m ≤ length bytes.now) × (length numbers.now % 3 ≡ 0) × (length numbers.now ≤ length answers.old) }
     ensures { Replied bytes.now m numbers.now answers.old (outcome result) answers.new }
@@ -49,11 +54,11 @@ fn print(file: &[u8], out: &mut [u8]) -> usize
 
 // The length of the text, which is written over the front of `output`. Fewer than 33,792 bytes lent, which is 1,024 lines of
 // three numbers of ten digits with a byte after each: refused, and nothing is written.
-pub fn run(input: &[u8], output: &mut [u8]) -> Result<usize, Refusal>
-    ensures { Ran input.now output.old (outcome result) output.new }
+pub fn run(input: &[u8], output: &mut [u8]) -> Result<usize, NoRoom>
+    ensures { Ran input.now output.old (ran_as result) output.new }
 {
     if output.len() < 33792 {
-        return Err(Refusal::NoRoomForText);
+        return Err(NoRoom);
     }
     Ok(print(input, output))
 }

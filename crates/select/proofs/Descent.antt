@@ -35,7 +35,8 @@ module _ (e : ℕ → Summary) (m g k a r n : ℕ) where
   unfolding select_down
   go_left y = rw y
 
-  go_right : ltb r (openings m g a (e (2 * k))) ≡ false → select_down e m (suc g) k a r n ≡ select_down e m g (2 * k + 1) (a + 2 ^ g) (r - openings m g a (e (2 * k))) (n + 1)
+  go_right : ltb r (openings m g a (e (2 * k))) ≡ false → select_down e m (suc g) k a r n
+      ≡ select_down e m g (2 * k + 1) (a + 2 ^ g) (r - openings m g a (e (2 * k))) (n + 1)
   unfolding select_down
   go_right y = rw y
 
@@ -43,9 +44,11 @@ module _ (e : ℕ → Summary) (m g k a r n : ℕ) where
   unfolding select_down
   at_leaf = refl
 
-select_is : (row : Row) (r : ℕ) → leaf_nth (word_of row) (select_down (entry (height row.m) (word_of row)) row.m (height row.m) 1 0 r 0) ≡ select (height row.m) (word_of row) r
+select_is : (row : Row) (r : ℕ) → leaf_nth (word_of row) (select_down (entry (height row.m) (word_of row)) row.m (height row.m) 1 0 r 0)
+    ≡ select (height row.m) (word_of row) r
 unfolding select
-select_is row r = ap (λ (n : ℕ). leaf_nth (word_of row) (select_down (entry (height row.m) (word_of row)) n (height row.m) 1 0 r 0)) (sym (length_bits row.bytes.now 0 row.m))
+select_is row r = ap (λ (n : ℕ). leaf_nth (word_of row) (select_down (entry (height row.m) (word_of row)) n (height row.m) 1 0 r 0))
+    (sym (length_bits row.bytes.now 0 row.m))
 
 -- of a stretch of the word, the sum of length and total is twice its openings
 sum_twice : (w : List Bool) (n i : ℕ) (s : Summary) → s ≡ summary_of (take n (drop i w)) → pos 0 ≤ℤ (pos (min n (length w - i)) +ℤ s.total)
@@ -61,7 +64,8 @@ pub record Kept (row : Row) (r : ℕ) (v : Sink) : Type 0 where
   pub starts : Starts (height row.m) g v.entry v.block
   pub wide : v.width ≡ 2 ^ g
   pub count : v.reads ≤ f
-  pub is : select_down (entry (height row.m) (word_of row)) row.m g v.entry v.block v.number v.reads ≡ select_down (entry (height row.m) (word_of row)) row.m (height row.m) 1 0 r 0
+  pub is : select_down (entry (height row.m) (word_of row)) row.m g v.entry v.block v.number v.reads
+      ≡ select_down (entry (height row.m) (word_of row)) row.m (height row.m) 1 0 r 0
 
 module _ (lin : Lineage) (r : ℕ) where
   abbrev entry_of : ℕ → Summary
@@ -76,26 +80,35 @@ module _ (lin : Lineage) (r : ℕ) where
     block_near = omega (zarith, blocks_inside, leaves_few lin.row.m lin.lent.small)
 
     pub kept_end : v.width ≤ 1 → (to : ℕ) → to ≡ min (256 * (v.block + 1)) lin.row.m
-        → (nth (256 * v.block) (bits lin.row.bytes.now (256 * v.block) (to - 256 * v.block)) v.number, v.reads) ≡ select (height lin.row.m) (word_of lin.row) r
+        → (nth (256 * v.block) (bits lin.row.bytes.now (256 * v.block) (to - 256 * v.block)) v.number, v.reads)
+        ≡ select (height lin.row.m) (word_of lin.row) r
     kept_end b to e = go kept.g kept.wide kept.is
       where
-        go : (g : ℕ) → v.width ≡ 2 ^ g → select_down entry_of lin.row.m g v.entry v.block v.number v.reads ≡ select_down entry_of lin.row.m (height lin.row.m) 1 0 r 0
-            → (nth (256 * v.block) (bits lin.row.bytes.now (256 * v.block) (to - 256 * v.block)) v.number, v.reads) ≡ select (height lin.row.m) (word_of lin.row) r
-        go zero w i = ap (λ (x : List Bool). (nth (256 * v.block) x v.number, v.reads)) (sym (block_is lin.row.bytes.now lin.row.m v.block to e))
-            ∙ ap (leaf_nth (word_of lin.row)) (sym (at_leaf entry_of lin.row.m 0 v.entry v.block v.number v.reads) ∙ i) ∙ select_is lin.row r
+        go : (g : ℕ) → v.width ≡ 2 ^ g → select_down entry_of lin.row.m g v.entry v.block v.number v.reads
+            ≡ select_down entry_of lin.row.m (height lin.row.m) 1 0 r 0
+            → (nth (256 * v.block) (bits lin.row.bytes.now (256 * v.block) (to - 256 * v.block)) v.number, v.reads)
+            ≡ select (height lin.row.m) (word_of lin.row) r
+        go zero w i =
+            ap (λ (x : List Bool). (nth (256 * v.block) x v.number, v.reads)) (sym (block_is lin.row.bytes.now lin.row.m v.block to e))
+            ∙ ap (leaf_nth (word_of lin.row)) (sym (at_leaf entry_of lin.row.m 0 v.entry v.block v.number v.reads) ∙ i)
+            ∙ select_is lin.row r
         go (suc g) w i = absurd (omega (zarith, two-pow-succ g, one-le-pow g 2 (omega zarith)))
 
     -- below an entry that is no leaf, g levels above the leaves
-    module _ (g : ℕ) (level : Level (height lin.row.m) kept.f (suc g) v.entry) (starts : Starts (height lin.row.m) (suc g) v.entry v.block) (wide : v.width ≡ 2 ^ suc g) where
+    module _ (g : ℕ) (level : Level (height lin.row.m) kept.f (suc g) v.entry) (starts : Starts (height lin.row.m) (suc g) v.entry v.block)
+        (wide : v.width ≡ 2 ^ suc g) where
       half : v.width / 2 ≡ 2 ^ g
       half = omega (zarith, wide, two-pow-succ g)
 
       -- the left child read is the word's own
       sum_own : sum_of lin.index.now lin.row.m v ≡ pos (min (256 * 2 ^ g) (lin.row.m - 256 * v.block)) +ℤ (entry_of (2 * v.entry)).total
-      sum_own = ap (λ (s : Summary). pos (min (256 * (v.width / 2)) (lin.row.m - 256 * v.block)) +ℤ s.total) (lin.lent.indexed.reads (2 * v.entry) (omega (zarith, below_leaves level))) ∙ rw half
+      sum_own = ap (λ (s : Summary). pos (min (256 * (v.width / 2)) (lin.row.m - 256 * v.block)) +ℤ s.total)
+          (lin.lent.indexed.reads (2 * v.entry) (omega (zarith, below_leaves level))) ∙ rw half
 
       sum_over : pos 0 ≤ℤ sum_of lin.index.now lin.row.m v
-      sum_over = rw sum_own (rw (length_bits lin.row.bytes.now 0 lin.row.m) at (sum_twice (word_of lin.row) (256 * 2 ^ g) (256 * v.block) (entry_of (2 * v.entry))
+      sum_over = rw sum_own
+          (rw (length_bits lin.row.bytes.now 0 lin.row.m) at
+          (sum_twice (word_of lin.row) (256 * 2 ^ g) (256 * v.block) (entry_of (2 * v.entry))
           (stands (height lin.row.m) (word_of lin.row) (level_left level) (left_starts starts))))
 
       over_at : Over lin.index.now lin.row.m v
@@ -109,7 +122,8 @@ module _ (lin : Lineage) (r : ℕ) where
         sum = sum_over;
       }
 
-      module _ (i : select_down entry_of lin.row.m (suc g) v.entry v.block v.number v.reads ≡ select_down entry_of lin.row.m (height lin.row.m) 1 0 r 0) where
+      module _ (i : select_down entry_of lin.row.m (suc g) v.entry v.block v.number v.reads
+          ≡ select_down entry_of lin.row.m (height lin.row.m) 1 0 r 0) where
         on : Kept lin.row r (sunk lin.index.now lin.row.m v)
         on = by_test (ltb v.number (P (sum_of lin.index.now lin.row.m v) / 2))
             (λ y. rw y (record {
@@ -136,7 +150,8 @@ module _ (lin : Lineage) (r : ℕ) where
       pub over : Over lin.index.now lin.row.m v
       over = go kept.g kept.level kept.starts kept.wide
         where
-          go : (g : ℕ) → Level (height lin.row.m) kept.f g v.entry → Starts (height lin.row.m) g v.entry v.block → v.width ≡ 2 ^ g → Over lin.index.now lin.row.m v
+          go : (g : ℕ) → Level (height lin.row.m) kept.f g v.entry → Starts (height lin.row.m) g v.entry v.block → v.width ≡ 2 ^ g
+              → Over lin.index.now lin.row.m v
           go zero x y z = absurd (omega zarith)
           go (suc g) x y z = over_at g x y z
 
@@ -144,6 +159,7 @@ module _ (lin : Lineage) (r : ℕ) where
       kept_on u e = rw e (go kept.g kept.level kept.starts kept.wide kept.is)
         where
           go : (g : ℕ) → Level (height lin.row.m) kept.f g v.entry → Starts (height lin.row.m) g v.entry v.block → v.width ≡ 2 ^ g
-              → select_down entry_of lin.row.m g v.entry v.block v.number v.reads ≡ select_down entry_of lin.row.m (height lin.row.m) 1 0 r 0 → Kept lin.row r (sunk lin.index.now lin.row.m v)
+              → select_down entry_of lin.row.m g v.entry v.block v.number v.reads
+              ≡ select_down entry_of lin.row.m (height lin.row.m) 1 0 r 0 → Kept lin.row r (sunk lin.index.now lin.row.m v)
           go zero x y z i = absurd (omega zarith)
           go (suc g) x y z i = on g x y z i

@@ -13,4 +13,5 @@ pub nth_is : (bytes : List ℕ) (i n r : ℕ) → there (slice_get (filter (bit 
 unfolding nth
 nth_is bytes i zero r = refl
 nth_is bytes i (suc n) zero = by_test (bit bytes i) (λ y. rw y refl) (λ y. rw (y, add-one) (nth_is bytes (suc i) n zero))
-nth_is bytes i (suc n) (suc r) = by_test (bit bytes i) (λ y. rw (y, add-one) (nth_is bytes (suc i) n r)) (λ y. rw (y, add-one) (nth_is bytes (suc i) n (suc r)))
+nth_is bytes i (suc n) (suc r) =
+    by_test (bit bytes i) (λ y. rw (y, add-one) (nth_is bytes (suc i) n r)) (λ y. rw (y, add-one) (nth_is bytes (suc i) n (suc r)))

@@ -1,3 +1,4 @@
 pub mod Bound
+pub mod Four
 pub mod Join
 pub mod Stretch

@@ -4,6 +4,8 @@
 ghost use Rattle.std.specs.Prelude.{◌≡◌};
 ghost use Rattle.summary.specs.Join.{at, joined, join_of, empty_of};
 ghost use Rattle.summary.specs.Bound.{Bounded};
+ghost use Rattle.summary.specs.Four.{four, of_four};
+ghost use Rattle.summary.specs.Stretch.{step};
 
 // Depths are counted from the stretch's start, over the boundaries after it.
 #[derive(Clone, Copy, PartialEq, Eq)]
@@ -49,6 +51,7 @@ impl Summary {
     };
 
     // `self` stands before `other`. The bound is twice the longest word's length, and keeps every sum from wrapping.
+    // An empty stretch is told by its count, not by an `Option`: its four numbers lie in the index, as 0, 0, 0, 0.
     pub fn join(self, other: Summary) -> Summary
         requires { Bounded 4194304 self × Bounded 4194304 other }
         ensures { result ≡ join_of self other }
@@ -63,7 +66,36 @@ impl Summary {
     }
 }
 
-// EMPTY, for a contract to name: a clause cannot say `Summary::EMPTY`.
+// The four numbers, in the order in which a row of the byte table and an index entry hold them.
+impl From<[i32; 4]> for Summary {
+    ghost from_gives = { λ numbers s. s ≡ of_four numbers };
+
+    fn from([total, least, greatest, count]: [i32; 4]) -> Summary {
+        Summary {
+            total,
+            least,
+            greatest,
+            count,
+        }
+    }
+}
+
+impl From<Summary> for [i32; 4] {
+    ghost from_gives = { λ s numbers. numbers ≡ four s };
+
+    fn from(s: Summary) -> [i32; 4] {
+        [s.total, s.least, s.greatest, s.count]
+    }
+}
+
+// A bit's step: an opening goes one up, a closing one down.
+pub fn step(opens: bool) -> i32
+    ensures { result ≡ step opens }
+{
+    if opens { 1 } else { -1 }
+}
+
+// EMPTY by a call, whose promise says that it is the rule's; a clause may name the constant itself, as `Summary.EMPTY`.
 pub fn empty() -> Summary
     ensures { result ≡ empty_of }
 {

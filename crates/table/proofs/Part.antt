@@ -2,16 +2,19 @@
 -- Assumes nothing.
 use mathlib.Core.Path.{◌≡◌, refl, sym, ap, ap₂, ◌∙◌}
 use mathlib.Core.Bool.{true}
-use mathlib.Core.List.{List, [], ◌∷◌, ◌++◌}
+use mathlib.Core.List.{List, [], ◌∷◌, ◌++◌, map}
 use Prim.Native.Nat.{ℕ, zero, suc, ◌+◌, ◌*◌, ◌/◌, ◌%◌, ◌≤◌, ◌<◌}
 use native.Mathlib.Omega.{arith}
-use lib.Dec.{ltb}
+use lib.Dec.{eqb, ltb}
 use lib.ListN.{get_or, length, take, drop, length-take}
 use lib.Seq.{get_or-take, get_or-drop}
-use borrow.Author.Tests.{leb-true, lt-ltb}
+use lib.IntN.{ℤ}
+use borrow.Author.Tests.{eqb-true, leb-true, lt-ltb}
 use Rattle.word.specs.Bits.{bit, bits}
 use Rattle.word.proofs.Bits.{length_bits}
+use Rattle.word.proofs.Signed.{by_test, true≢false}
 use Rattle.summary.specs.declared.Summary.{Summary}
+use Rattle.summary.specs.Four.{four, of_four}
 use Rattle.summary.specs.Stretch.{summary_of}
 use Rattle.summary.specs.Join.{join_of, empty_of}
 use Rattle.summary.specs.Bound.{Bounded}
@@ -41,8 +44,8 @@ pub within : (bytes : List ℕ) (q n i : ℕ) → i < length (take n (drop q byt
 within bytes q n i h = omega (arith, length-take n (drop q bytes))
 
 -- the row of byte i of the n bytes from place q on
-pub row_at : (rows : List Summary) (bytes : List ℕ) (q n i : ℕ) (d : Summary) → rows ≡ rows_of → get_or bytes (q + i) 0 < 256 → i < length (take n (drop q bytes))
-    → get_or rows (get_or (take n (drop q bytes)) i 0) d ≡ summary_of (bits bytes (8 * (q + i)) 8)
+pub row_at : (rows : List (List ℤ)) (bytes : List ℕ) (q n i : ℕ) (d : List ℤ) → rows ≡ map four rows_of → get_or bytes (q + i) 0 < 256 → i < length (take n (drop q bytes))
+    → of_four (get_or rows (get_or (take n (drop q bytes)) i 0) d) ≡ summary_of (bits bytes (8 * (q + i)) 8)
 row_at rows bytes q n i d e l h =
     let z : get_or (take n (drop q bytes)) i 0 ≡ get_or bytes (q + i) 0 = get_or-take n (drop q bytes) i 0 (within bytes q n i h) ∙ get_or-drop q bytes i 0 in
     rw z (row_is rows (get_or bytes (q + i) 0) d e l ∙ row_bits bytes (q + i))
@@ -66,11 +69,13 @@ module _ (bytes : List ℕ) (i n : ℕ) {s : Summary} (u : s ≡ summary_of (bit
 pub starts_at : (q : ℕ) → 8 * q % 8 ≡ 0
 starts_at q = omega arith
 
-whole_fits : (q to : ℕ) → whole_at (8 * q) to ≡ true → 8 * q + 8 ≤ to
+pub whole_fits : (i to : ℕ) → whole_at i to ≡ true → (i % 8 ≡ 0) × (i + 8 ≤ to)
 unfolding whole_at
-whole_fits q to e = leb-true (8 * q + 8) to (rw starts_at at e)
+whole_fits i to e = by_test (eqb (i % 8) 0)
+    (λ t. (eqb-true _ _ t, leb-true (i + 8) to (rw t at e)))
+    (λ t. absurd (true≢false (sym (rw t at e))))
 
 -- so the whole bytes end by bit `to`
 pub ends_by : (to e : ℕ) → ((q : ℕ) → whole_at (8 * q) to ≡ ltb q e) → 8 * e ≤ to
 ends_by to zero h = omega arith
-ends_by to (suc q) h = omega (arith, whole_fits q to (h q ∙ lt-ltb q (suc q) (omega arith)))
+ends_by to (suc q) h = omega (arith, whole_fits (8 * q) to (h q ∙ lt-ltb q (suc q) (omega arith)))

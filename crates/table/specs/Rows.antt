@@ -1,5 +1,5 @@
 -- What the byte table holds: the summary of each byte's eight bits, four numbers to a row.
-use Rattle.std.specs.Prelude.{Bool, false, cond, List, [], ◌∷◌, ℕ, zero, suc, ◌+◌, ◌/◌, ◌%◌, eqb, leb, ℤ}
+use Rattle.std.specs.Prelude.{Bool, false, cond, List, [], ◌∷◌, ◌++◌, ℕ, zero, suc, ◌+◌, ◌/◌, ◌%◌, eqb, leb, ℤ}
 use Rattle.word.specs.Bits.{bits}
 use Rattle.summary.specs.declared.Summary.{Summary}
 use Rattle.summary.specs.Stretch.{summary_of}
@@ -32,10 +32,10 @@ table_of = listed number_at 0 1024
 unfoldable pub rows_of : List Summary
 rows_of = listed row_of 0 256
 
--- the numbers of rows, four to a row
-abbrev pub numbers : List Summary → List ℤ
+-- the numbers of rows, one row after the other
+abbrev pub numbers : List (List ℤ) → List ℤ
 numbers [] = []
-numbers (s ∷ rows) = s.total ∷ s.least ∷ s.greatest ∷ s.count ∷ numbers rows
+numbers (row ∷ rows) = row ++ numbers rows
 
 -- whether a byte starts at bit i and ends by bit `to`. "An unfinished last byte is taken bit by bit."
 unfoldable pub whole_at : ℕ → ℕ → Bool

@@ -15,16 +15,12 @@ mod rows;
 fn of_bit(opens: bool) -> Summary
     ensures { result ≡ summary_of (opens ∷ []) }
 {
-    let step = if opens { 1 } else { -1 };
-    Summary {
-        total: step,
-        least: step,
-        greatest: step,
-        count: 1,
-    }
+    let step = summary::step(opens);
+    Summary::from([step, step, step, 1])
 }
 
-// The bits from `from` up to but not including `to`, one by one.
+// The bits from `from` up to but not including `to`, one by one. Bytes, first bit and end stay three parameters, here and in the walks'
+// scans: a struct of them would be written out at each call.
 fn bits_of(bytes: &[u8], from: usize, to: usize) -> Summary
     requires { (from ≤ to) × (to ≤ 8 * length bytes.now) × (to ≤ 4194304) }
     ensures { result ≡ summary_of (bits bytes.now from (to - from)) }
@@ -44,7 +40,7 @@ fn bytes_of(bytes: &[u8], first: usize, end: usize) -> Summary
     let rows = rows::table();
     let mut s = Summary::EMPTY;
     for b in &bytes[first..end] {
-        s = s.join(rows[*b as usize]);
+        s = s.join(Summary::from(rows[*b as usize]));
     }
     s
 }

@@ -21,7 +21,8 @@ impl Page<'_> {
         self.at += 1;
     }
 
-    // The digits before the last are those of n / 10, so the most significant one is written first.
+    // The digits before the last are those of n / 10, so the most significant one is written first. std's text of a number would come in
+    // a buffer of its own, to be copied here, and by a rule of its own, to be shown the same as document 01's.
     fn digits(&mut self, n: u32, k: usize)
         requires { self.old.at + k + 1 ≤ length self.old.out.now }
         ensures { Writes (digits k n) self.old self.new }
@@ -62,7 +63,7 @@ pub fn put_lines(answers: &[u32], out: &mut [u8]) -> usize
     page.at
 }
 
-// "or only `refused` and the number"
+// "or only `refused` and the number", whichever enum it is a number of.
 pub fn put_refusal(code: u32, out: &mut [u8]) -> usize
     requires { 19 ≤ length out.old }
     ensures { Put (refusal code) out.old 0 result out.new }

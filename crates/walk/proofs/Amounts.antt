@@ -64,8 +64,22 @@ depth_nil = refl
 depth_count : (z : List Bool) → depth_of z ≡ pos (count true z) -ℤ pos (count false z)
 unfolding depth_of
 depth_count [] = refl
-depth_count (true ∷ z) = omega (zarith, depth_count z, +law (pos 1) (depth_of z), -law (pos (count true z)) (pos (count false z)), -law (pos (suc (count true z))) (pos (count false z)))
-depth_count (false ∷ z) = omega (zarith, depth_count z, +law (negsuc 0) (depth_of z), -law (pos (count true z)) (pos (count false z)), -law (pos (count true z)) (pos (suc (count false z))))
+depth_count (true ∷ z) =
+    omega (
+      zarith,
+      depth_count z,
+      +law (pos 1) (depth_of z),
+      -law (pos (count true z)) (pos (count false z)),
+      -law (pos (suc (count true z))) (pos (count false z)),
+    )
+depth_count (false ∷ z) =
+    omega (
+      zarith,
+      depth_count z,
+      +law (negsuc 0) (depth_of z),
+      -law (pos (count true z)) (pos (count false z)),
+      -law (pos (count true z)) (pos (suc (count false z))),
+    )
 
 -- "D(p) .. is openings less closings among the first p bits"
 pub D_depth : (w : List Bool) (p : ℕ) → D w p ≡ depth_of (take p w)

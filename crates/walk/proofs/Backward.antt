@@ -29,7 +29,8 @@ use Rattle.walk.proofs.Options.{or_else_assoc, by_option, some_is, none_some, fo
 use Rattle.walk.proofs.Amounts.{depth_nil, D_depth}
 use Rattle.walk.proofs.Hit.{hits}
 use Rattle.walk.proofs.Final.{Final, final_split, final_some, final_none, final_nil, final_scans, early, later_part, earlier_part}
-use Rattle.walk.proofs.Places.{Starts, Earlier, stretch, drop_take, left_half, right_half, leaf_level, leaf_starts, not_one, root_start, left_starts, right_starts, starts_even, starts_odd, stands}
+use Rattle.walk.proofs.Places.{Starts, Earlier, stretch, drop_take, left_half, right_half, stands}
+use Rattle.walk.proofs.Places.{leaf_level, leaf_starts, not_one, root_start, left_starts, right_starts, starts_even, starts_odd}
 use Rattle.word.specs.Depth.{Backward, NoBackward}
 
 -- one level down, by what the right child says
@@ -48,9 +49,11 @@ module _ (h : ℕ) (w : List Bool) where
   -- the way down from an entry over 2 ^ g blocks: g reads
   abbrev Down : ℕ → Type 0
   Down g = (s f k a : ℕ) (t : ℤ) (n : ℕ) → g ≤ s → Level h f g k → Starts h g k a
-      → leaf_back (2 ^ h) w (descend_back (entry h w) (2 ^ h) s k t n) ≡ (final (256 * a) (stretch w g a) (t +ℤ depth_of (stretch w g a)), n + g)
+      → leaf_back (2 ^ h) w (descend_back (entry h w) (2 ^ h) s k t n)
+      ≡ (final (256 * a) (stretch w g a) (t +ℤ depth_of (stretch w g a)), n + g)
 
-  at_leaf : (k a : ℕ) (t : ℤ) (n : ℕ) → Starts h 0 k a → leaf_back (2 ^ h) w (walk k t n) ≡ (final (256 * a) (stretch w 0 a) (t +ℤ depth_of (stretch w 0 a)), n + 0)
+  at_leaf : (k a : ℕ) (t : ℤ) (n : ℕ) → Starts h 0 k a → leaf_back (2 ^ h) w (walk k t n)
+      ≡ (final (256 * a) (stretch w 0 a) (t +ℤ depth_of (stretch w 0 a)), n + 0)
   at_leaf k a t n b = let d : k - 2 ^ h ≡ a = omega (arith, b.at) in let m : n + 0 ≡ n = omega arith in rw (d, m)
 
   down_zero : Down 0
@@ -66,8 +69,18 @@ module _ (h : ℕ) (w : List Bool) where
       let sum : entry h w (2 * k + 1) ≡ summary_of (stretch w g (a + 2 ^ g)) = stands h w (level_right l) (right_starts b) in
       rw (lt-leb (2 ^ h) k (below_leaves l))
       (by_test (hit_back (entry h w (2 * k + 1)) t)
-      (λ y. rw (y, ih s (suc f) (2 * k + 1) (a + 2 ^ g) t (n + 1) (omega arith) (level_right l) (right_starts b), c, enter_right w g a t _ sum y))
-      (λ y. rw (y, ih s (suc f) (2 * k) a (t +ℤ (entry h w (2 * k + 1)).total) (n + 1) (omega arith) (level_left l) (left_starts b), c, enter_left w g a t _ sum y)))
+      (λ y. rw (
+        y,
+        ih s (suc f) (2 * k + 1) (a + 2 ^ g) t (n + 1) (omega arith) (level_right l) (right_starts b),
+        c,
+        enter_right w g a t _ sum y,
+      ))
+      (λ y. rw (
+        y,
+        ih s (suc f) (2 * k) a (t +ℤ (entry h w (2 * k + 1)).total) (n + 1) (omega arith) (level_left l) (left_starts b),
+        c,
+        enter_left w g a t _ sum y,
+      )))
 
   down : (g : ℕ) → Down g
   down zero = down_zero
@@ -85,16 +98,20 @@ module _ (h : ℕ) (w : List Bool) where
     last_part : drop (256 * a) (take (256 * (a + 2 ^ g)) w) ≡ stretch w g a
     last_part = let d : 256 * (a + 2 ^ g) ≡ 256 * a + 256 * 2 ^ g = omega arith in rw (d, drop_take)
 
-    into : hit_back s t ≡ true → before (256 * (a + 2 ^ g)) (t +ℤ depth_of (take (256 * (a + 2 ^ g)) w)) ≡ final (256 * a) (stretch w g a) (t +ℤ depth_of (stretch w g a))
+    into : hit_back s t ≡ true → before (256 * (a + 2 ^ g)) (t +ℤ depth_of (take (256 * (a + 2 ^ g)) w))
+        ≡ final (256 * a) (stretch w g a) (t +ℤ depth_of (stretch w g a))
     into y =
-        let f = hits (stretch w g a) (t +ℤ depth_of (stretch w g a)) (final_scans (256 * a) (stretch w g a) (t +ℤ depth_of (stretch w g a))) (rw (e, total_is) at y) in
+        let f = hits (stretch w g a) (t +ℤ depth_of (stretch w g a)) (final_scans (256 * a) (stretch w g a) (t +ℤ depth_of (stretch w g a)))
+        (rw (e, total_is) at y) in
         let z : 0 + 256 * a ≡ 256 * a = omega arith in
         let c = later_part (256 * a) 0 (take (256 * (a + 2 ^ g)) w) t s (rw last_part e) y in
         rw (rw (last_part, z) at c, f.1)
 
-    over : hit_back s t ≡ false → before (256 * (a + 2 ^ g)) (t +ℤ depth_of (take (256 * (a + 2 ^ g)) w)) ≡ before (256 * a) ((t +ℤ s.total) +ℤ depth_of (take (256 * a) w))
+    over : hit_back s t ≡ false → before (256 * (a + 2 ^ g)) (t +ℤ depth_of (take (256 * (a + 2 ^ g)) w))
+        ≡ before (256 * a) ((t +ℤ s.total) +ℤ depth_of (take (256 * a) w))
     over y =
-        let c : final 0 (take (256 * (a + 2 ^ g)) w) (t +ℤ depth_of (take (256 * (a + 2 ^ g)) w)) ≡ final 0 (take (256 * a) w) ((t +ℤ s.total) +ℤ depth_of (take (256 * a) w))
+        let c : final 0 (take (256 * (a + 2 ^ g)) w) (t +ℤ depth_of (take (256 * (a + 2 ^ g)) w))
+        ≡ final 0 (take (256 * a) w) ((t +ℤ s.total) +ℤ depth_of (take (256 * a) w))
         = rw first_part at (earlier_part (256 * a) 0 (take (256 * (a + 2 ^ g)) w) t s (rw last_part e) y) in
         let u : t +ℤ depth_of (take (256 * (a + 2 ^ g)) w) ≡ (t +ℤ s.total) +ℤ depth_of (take (256 * a) w)
         = early (256 * a) 0 (take (256 * (a + 2 ^ g)) w) t s (rw last_part e) ∙ rw (last_part, first_part, e, total_is) in
@@ -103,7 +120,8 @@ module _ (h : ℕ) (w : List Bool) where
   -- the climb, from the start of entry k's stretch
   abbrev Up : ℕ → Type 0
   Up f = (g k a : ℕ) (t : ℤ) (n : ℕ) → Level h f g k → Starts h g k a
-      → ((landed_back h w (climb_back (entry h w) f k t n)).0 ≡ before (256 * a) (t +ℤ depth_of (take (256 * a) w))) × ((landed_back h w (climb_back (entry h w) f k t n)).1 ≤ n + (2 * f + g - 1))
+      → ((landed_back h w (climb_back (entry h w) f k t n)).0 ≡ before (256 * a) (t +ℤ depth_of (take (256 * a) w)))
+      × ((landed_back h w (climb_back (entry h w) f k t n)).1 ≤ n + (2 * f + g - 1))
 
   up_zero : Up 0
   unfolding climb_back
@@ -119,9 +137,13 @@ module _ (h : ℕ) (w : List Bool) where
       (λ v. rw v (odd v (a - 2 ^ g) (starts_odd l v b))))
     where
       odd : even k ≡ false → (b : ℕ) → Earlier h g k a b
-          → ((landed_back h w (cond (hit_back (entry h w (k - 1)) t) (Enter (walk (k - 1) t (n + 1))) (climb_back (entry h w) f (k / 2) (t +ℤ (entry h w (k - 1)).total) (n + 1)))).0
+          → ((landed_back h w
+          (cond (hit_back (entry h w (k - 1)) t) (Enter (walk (k - 1) t (n + 1)))
+          (climb_back (entry h w) f (k / 2) (t +ℤ (entry h w (k - 1)).total) (n + 1)))).0
           ≡ before (256 * a) (t +ℤ depth_of (take (256 * a) w)))
-          × ((landed_back h w (cond (hit_back (entry h w (k - 1)) t) (Enter (walk (k - 1) t (n + 1))) (climb_back (entry h w) f (k / 2) (t +ℤ (entry h w (k - 1)).total) (n + 1)))).1
+          × ((landed_back h w
+          (cond (hit_back (entry h w (k - 1)) t) (Enter (walk (k - 1) t (n + 1)))
+          (climb_back (entry h w) f (k / 2) (t +ℤ (entry h w (k - 1)).total) (n + 1)))).1
           ≤ n + (2 * suc f + g - 1))
       odd v b u =
           let lb = level_before l (even_no k v) in
@@ -156,7 +178,15 @@ module _ (h : ℕ) (w : List Bool) where
     depth = let e : suc p ≡ s + suc (p % 256) = omega arith in rw e (depth_part s (suc (p % 256)) w)
 
     from_start_lem : u +ℤ depth_of (take s w) ≡ U
-    from_start_lem = omega (zarith, depth, +law u (depth_of (take s w)), +law t (depth_of (take (suc p) w)), +law t (depth_of (take (suc (p % 256)) (drop s w))), +law (depth_of (take s w)) (depth_of (take (suc (p % 256)) (drop s w))))
+    from_start_lem =
+        omega (
+          zarith,
+          depth,
+          +law u (depth_of (take s w)),
+          +law t (depth_of (take (suc p) w)),
+          +law t (depth_of (take (suc (p % 256)) (drop s w))),
+          +law (depth_of (take s w)) (depth_of (take (suc (p % 256)) (drop s w))),
+        )
 
     to_start : U -ℤ depth_of (take s w) ≡ u
     to_start = omega (zarith, from_start_lem, +law u (depth_of (take s w)), -law U (depth_of (take s w)))
@@ -166,7 +196,8 @@ module _ (h : ℕ) (w : List Bool) where
         let z : 0 + s ≡ s = omega arith in
         let place : s + p % 256 ≡ p = omega arith in
         rw (final_split s 0 (take p w) U, take-take s p w (omega arith), z, to_start)
-        (ap (λ (x : List Bool). or_else (final s x u) (final 0 (take s w) U)) (ap (λ (j : ℕ). drop s (take j w)) (sym place) ∙ drop_take s (p % 256) w))
+        (ap (λ (x : List Bool). or_else (final s x u) (final 0 (take s w) U))
+        (ap (λ (j : ℕ). drop s (take j w)) (sym place) ∙ drop_take s (p % 256) w))
 
     -- what is found is what a scan of all the bits before p finds, or boundary 0
     pub backward_finds : (backward h w (suc p) t).0 ≡ before p U
@@ -199,7 +230,8 @@ module _ (h : ℕ) (w : List Bool) where
 
     none_after : final 0 (take p w) U ≡ none → (j : ℕ) → 0 < j → j < suc p → D w j ≢ D w (suc p) +ℤ t
     none_after e zero l k d = omega arith
-    none_after e (suc j) l k d = final_none 0 (take p w) U e j (omega (arith, len)) (ap depth_of (part (suc j) (omega arith)) ∙ deep (suc j) d)
+    none_after e (suc j) l k d =
+        final_none 0 (take p w) U e j (omega (arith, len)) (ap depth_of (part (suc j) (omega arith)) ∙ deep (suc j) d)
 
     at_zero : eq_z U (pos 0) ≡ true → depth_of (take 0 w) ≡ U
     at_zero y = depth_nil ∙ omega zarith
@@ -216,13 +248,15 @@ module _ (h : ℕ) (w : List Bool) where
       earlier = omega (arith, y.ends, len);
       there = there (suc y.after) (ap depth_of (sym (part (suc y.after) (omega (arith, y.ends, len)))) ∙ y.there);
       last = λ j l k d. let z : j ≡ suc (j - 1) = omega arith in
-          y.latest (j - 1) (omega arith) (omega (arith, len)) (ap depth_of (part (suc (j - 1)) (omega arith)) ∙ deep (suc (j - 1)) (ap (D w) (sym z) ∙ d));
+          y.latest (j - 1) (omega arith) (omega (arith, len))
+          (ap depth_of (part (suc (j - 1)) (omega arith)) ∙ deep (suc (j - 1)) (ap (D w) (sym z) ∙ d));
     })
 
     some_last : (q : ℕ) → before p U ≡ some q → Backward w (suc p) t q
     some_last q e = by_option (final 0 (take p w) U)
         (λ n. last_zero n q (rw n at e))
-        (λ r f. let o : q ≡ r = some_is {x = some r} {a = r} {b = q} refl (rw f at e) in last_later q (final_some 0 (take p w) U q (f ∙ ap {B = Option ℕ} some (sym o))))
+        (λ r f. let o : q ≡ r = some_is {x = some r} {a = r} {b = q} refl (rw f at e) in
+        last_later q (final_some 0 (take p w) U q (f ∙ ap {B = Option ℕ} some (sym o))))
 
     none_at : before p U ≡ none → (j : ℕ) → j < suc p → D w j ≢ D w (suc p) +ℤ t
     none_at e j l d = by_option (final 0 (take p w) U)
@@ -254,7 +288,8 @@ module _ (h : ℕ) (w : List Bool) where
     pub backward_is : (p : ℕ) (t : ℤ) → p ≤ length w → (q : ℕ) → Backward w p t q → (backward h w p t).0 ≡ some q
     backward_is p t b q f = by_option (backward h w p t).0
         (λ e. absurd ((backward_none p t b e).nowhere q f.earlier f.there))
-        (λ r e. let g = backward_some p t b r e in e ∙ ap {B = Option ℕ} some (only r q (λ z. g.last q z f.earlier f.there) (λ z. f.last r z g.earlier g.there)))
+        (λ r e. let g = backward_some p t b r e in
+        e ∙ ap {B = Option ℕ} some (only r q (λ z. g.last q z f.earlier f.there) (λ z. f.last r z g.earlier g.there)))
 
     pub backward_is_none : (p : ℕ) (t : ℤ) → p ≤ length w → NoBackward w p t → (backward h w p t).0 ≡ none
     backward_is_none p t b f = found_or_not (backward h w p t).0 (λ q e. let g = backward_some p t b q e in f.nowhere q g.earlier g.there)

@@ -34,7 +34,9 @@ module _ (bytes : List ℕ) (idx : List ℤ) (m l : ℕ) (lent : Lent bytes idx 
   read_own = ap (λ (s : Summary). seen s n) (lent.indexed.reads k (omega (arith, lent.leaves)))
 
   pub after_own : after_of (entry_at idx) k n ≡ after_of (entry (height m) (word bytes m)) k n
-  after_own = after_same (entry_at idx) k n (entry (height m) (word bytes m)) (λ v. lent.indexed.reads (k + 1) (omega (arith, even_yes k v, lent.leaves)))
+  after_own = after_same (entry_at idx) k n (entry (height m) (word bytes m))
+      (λ v. lent.indexed.reads (k + 1) (omega (arith, even_yes k v, lent.leaves)))
 
   pub before_own : before_of (entry_at idx) k n ≡ before_of (entry (height m) (word bytes m)) k n
-  before_own = before_same (entry_at idx) k n (entry (height m) (word bytes m)) (λ v. lent.indexed.reads (k - 1) (omega (arith, lent.leaves)))
+  before_own = before_same (entry_at idx) k n (entry (height m) (word bytes m))
+      (λ v. lent.indexed.reads (k - 1) (omega (arith, lent.leaves)))

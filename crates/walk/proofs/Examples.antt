@@ -23,10 +23,12 @@ closing_0 = refl
 
 -- "5 of 511: 0, one read."
 pub opening_511 : backward 1 vee 512 (pos 0) ≡ (some 0, 1)
-unfolding vee entry entry_by summary_of depth_of depths least_of greatest_of how_many min_z max_z eq_z final climb_back descend_back backward
+unfolding vee entry entry_by summary_of depth_of depths least_of greatest_of how_many min_z max_z eq_z final climb_back descend_back
+    backward
 opening_511 = refl
 
 -- "6 of 255: 254, none."
 pub parent_255 : backward 1 vee 255 (negsuc 0) ≡ (some 254, 0)
-unfolding vee entry entry_by summary_of depth_of depths least_of greatest_of how_many min_z max_z eq_z final climb_back descend_back backward
+unfolding vee entry entry_by summary_of depth_of depths least_of greatest_of how_many min_z max_z eq_z final climb_back descend_back
+    backward
 parent_255 = refl

@@ -18,7 +18,8 @@ use Rattle.walk.proofs.Options.{or_else_none, or_else_assoc, by_option, some_is,
 use Rattle.walk.proofs.Amounts.{none_off, off_twice, one_there, more_there, more_back, Nowhere, nowhere_cons}
 use Rattle.walk.proofs.Hit.{Scans, missed, hits}
 
-pub final_split : (n i : ℕ) (z : List Bool) (t : ℤ) → final i z t ≡ or_else (final (i + n) (drop n z) (t -ℤ depth_of (take n z))) (final i (take n z) t)
+pub final_split : (n i : ℕ) (z : List Bool) (t : ℤ)
+    → final i z t ≡ or_else (final (i + n) (drop n z) (t -ℤ depth_of (take n z))) (final i (take n z) t)
 unfolding final depth_of
 final_split zero i z t = let e : i + 0 ≡ i = omega zarith in rw (e, none_off) (sym (or_else_none (final i z t)))
 final_split (suc n) i [] t = refl
@@ -34,7 +35,8 @@ pub record Final (i : ℕ) (z : List Bool) (t : ℤ) (q : ℕ) : Type 0 where
   pub there : depth_of (take (suc after) z) ≡ t
   pub latest : (j : ℕ) → after < j → j < length z → depth_of (take (suc j) z) ≡ t → ⊥
 
-pub final_cons : (i : ℕ) (b : Bool) (z : List Bool) (t : ℤ) → final i (b ∷ z) t ≡ or_else (final (suc i) z (t -ℤ step b)) (cond (eq_z (step b) t) (some (suc i)) none)
+pub final_cons : (i : ℕ) (b : Bool) (z : List Bool) (t : ℤ)
+    → final i (b ∷ z) t ≡ or_else (final (suc i) z (t -ℤ step b)) (cond (eq_z (step b) t) (some (suc i)) none)
 unfolding final
 final_cons i b z t = refl
 
@@ -70,7 +72,8 @@ final_some i (b ∷ z) t q e = by_option (final (suc i) z (t -ℤ step b))
     none_later f zero l k d = omega zarith
     none_later f (suc j) l k d = f j (omega zarith) (more_back b z t (suc j) d)
 
-    last : (a : ℕ) → ((j : ℕ) → a < j → j < length z → depth_of (take (suc j) z) ≡ t -ℤ step b → ⊥) → (j : ℕ) → suc a < j → j < suc (length z) → depth_of (take (suc j) (b ∷ z)) ≡ t → ⊥
+    last : (a : ℕ) → ((j : ℕ) → a < j → j < length z → depth_of (take (suc j) z) ≡ t -ℤ step b → ⊥) → (j : ℕ) → suc a < j
+        → j < suc (length z) → depth_of (take (suc j) (b ∷ z)) ≡ t → ⊥
     last a f zero l k d = omega zarith
     last a f (suc j) l k d = f j (omega zarith) (omega zarith) (more_back b z t (suc j) d)
 
@@ -95,18 +98,40 @@ module _ (n i : ℕ) (z : List Bool) (t : ℤ) (s : Summary) (e : s ≡ summary_
   whole_depth = ap depth_of (sym (take-append-drop n z)) ∙ depth_append (take n z) (drop n z)
 
   late : (t +ℤ depth_of z) -ℤ depth_of (take n z) ≡ t +ℤ depth_of (drop n z)
-  late = omega (zarith, whole_depth, +law t (depth_of z), +law t (depth_of (drop n z)), -law (t +ℤ depth_of z) (depth_of (take n z)), +law (depth_of (take n z)) (depth_of (drop n z)))
+  late = omega (
+    zarith,
+    whole_depth,
+    +law t (depth_of z),
+    +law t (depth_of (drop n z)),
+    -law (t +ℤ depth_of z) (depth_of (take n z)),
+    +law (depth_of (take n z)) (depth_of (drop n z)),
+  )
 
   pub early : t +ℤ depth_of z ≡ (t +ℤ depth_of (drop n z)) +ℤ depth_of (take n z)
-  early = omega (zarith, whole_depth, +law t (depth_of z), +law t (depth_of (drop n z)), +law (t +ℤ depth_of (drop n z)) (depth_of (take n z)), +law (depth_of (take n z)) (depth_of (drop n z)))
+  early = omega (
+    zarith,
+    whole_depth,
+    +law t (depth_of z),
+    +law t (depth_of (drop n z)),
+    +law (t +ℤ depth_of (drop n z)) (depth_of (take n z)),
+    +law (depth_of (take n z)) (depth_of (drop n z)),
+  )
 
   pub test_is : (x : Bool) → hit_back s t ≡ x → hit (summary_of (drop n z)) (t +ℤ depth_of (drop n z)) ≡ x
   test_is x h = rw (e, total_is) at h
 
   pub later_part : hit_back s t ≡ true → final i z (t +ℤ depth_of z) ≡ final (i + n) (drop n z) (t +ℤ depth_of (drop n z))
-  later_part h = let f = hits (drop n z) (t +ℤ depth_of (drop n z)) (final_scans (i + n) (drop n z) (t +ℤ depth_of (drop n z))) (test_is true h) in
+  later_part h =
+      let f = hits (drop n z) (t +ℤ depth_of (drop n z)) (final_scans (i + n) (drop n z) (t +ℤ depth_of (drop n z))) (test_is true h) in
       final_split n i z (t +ℤ depth_of z) ∙ rw (late, f.1)
 
   pub earlier_part : hit_back s t ≡ false → final i z (t +ℤ depth_of z) ≡ final i (take n z) ((t +ℤ s.total) +ℤ depth_of (take n z))
   earlier_part h = final_split n i z (t +ℤ depth_of z)
-      ∙ rw (late, missed (drop n z) (t +ℤ depth_of (drop n z)) (final_scans (i + n) (drop n z) (t +ℤ depth_of (drop n z))) (test_is false h), early, e, total_is)
+      ∙ rw (
+        late,
+        missed (drop n z) (t +ℤ depth_of (drop n z)) (final_scans (i + n) (drop n z) (t +ℤ depth_of (drop n z)))
+            (test_is false h),
+        early,
+        e,
+        total_is,
+      )

@@ -18,7 +18,8 @@ use Rattle.walk.proofs.Amounts.{none_off, off_twice, one_there, one_other, more_
 use Rattle.walk.proofs.Hit.{Scans, missed, hits}
 
 -- a stretch in two parts
-pub first_split : (n i : ℕ) (z : List Bool) (t : ℤ) → first i z t ≡ or_else (first i (take n z) t) (first (i + n) (drop n z) (t -ℤ depth_of (take n z)))
+pub first_split : (n i : ℕ) (z : List Bool) (t : ℤ)
+    → first i z t ≡ or_else (first i (take n z) t) (first (i + n) (drop n z) (t -ℤ depth_of (take n z)))
 unfolding first depth_of
 first_split zero i z t = let e : i + 0 ≡ i = omega zarith in rw (e, none_off)
 first_split (suc n) i [] t = refl
@@ -34,7 +35,8 @@ pub record First (i : ℕ) (z : List Bool) (t : ℤ) (q : ℕ) : Type 0 where
   pub there : depth_of (take (suc after) z) ≡ t
   pub soonest : (j : ℕ) → j < after → depth_of (take (suc j) z) ≡ t → ⊥
 
-pub first_cons : (i : ℕ) (b : Bool) (z : List Bool) (t : ℤ) → first i (b ∷ z) t ≡ cond (eq_z (step b) t) (some (suc i)) (first (suc i) z (t -ℤ step b))
+pub first_cons : (i : ℕ) (b : Bool) (z : List Bool) (t : ℤ)
+    → first i (b ∷ z) t ≡ cond (eq_z (step b) t) (some (suc i)) (first (suc i) z (t -ℤ step b))
 unfolding first
 first_cons i b z t = refl
 
@@ -55,7 +57,8 @@ first_some i (b ∷ z) t q e = by_test (eq_z (step b) t)
     })
     (λ h. later h (first_some (suc i) z (t -ℤ step b) q (rw h at e)))
   where
-    soon : (a : ℕ) → eq_z (step b) t ≡ false → ((j : ℕ) → j < a → depth_of (take (suc j) z) ≡ t -ℤ step b → ⊥) → (j : ℕ) → j < suc a → depth_of (take (suc j) (b ∷ z)) ≡ t → ⊥
+    soon : (a : ℕ) → eq_z (step b) t ≡ false → ((j : ℕ) → j < a → depth_of (take (suc j) z) ≡ t -ℤ step b → ⊥) → (j : ℕ) → j < suc a
+        → depth_of (take (suc j) (b ∷ z)) ≡ t → ⊥
     soon a h s zero l e = one_other b z t h e
     soon a h s (suc j) l e = s j (omega zarith) (more_back b z t (suc j) e)
 

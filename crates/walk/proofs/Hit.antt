@@ -45,7 +45,8 @@ pub missed : (x : List Bool) (t : ℤ) {o : Option ℕ} → Scans x t o → hit 
 missed x t {o} c e = found_or_not o (λ q f. true≢false (sym (spans_hit (summary_of x) t ((reaches_iff x t).0 (c.finds q f))) ∙ e))
 
 pub hits : (x : List Bool) (t : ℤ) {o : Option ℕ} → Scans x t o → hit (summary_of x) t ≡ true → (q : ℕ) × (o ≡ some q)
-hits x t {o} c e = there_or_not o (λ f. let r = (reaches_iff x t).1 (hit_spans (summary_of x) t e) in there (c.all f) r.place r.after r.inside r.depth)
+hits x t {o} c e =
+    there_or_not o (λ f. let r = (reaches_iff x t).1 (hit_spans (summary_of x) t e) in there (c.all f) r.place r.after r.inside r.depth)
   where
     there : Nowhere x t → (p : ℕ) → 1 ≤ p → p ≤ length x → depth_of (take p x) ≡ t → ⊥
     there f zero a b d = omega zarith

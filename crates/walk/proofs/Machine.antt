@@ -38,7 +38,8 @@ pub zero_wanted : {n : ℕ} → n ≡ 0 → eq_z (to_z w64 n) (pos 0) ≡ true
 zero_wanted e = rw e (→eq_z (pos 0) (pos 0) refl)
 
 pub other_wanted : {n : ℕ} → Fits w64 n → (n ≡ 0 → ⊥) → eq_z (to_z w64 n) (pos 0) ≡ false
-other_wanted {n} f h = not_true (eq_z (to_z w64 n) (pos 0)) (λ e. h (sym (of_z-to_z f) ∙ ap (of_z w64) (→eq (to_z w64 n) (pos 0) (eq_z→ (to_z w64 n) (pos 0) e))))
+other_wanted {n} f h = not_true (eq_z (to_z w64 n) (pos 0))
+    (λ e. h (sym (of_z-to_z f) ∙ ap (of_z w64) (→eq (to_z w64 n) (pos 0) (eq_z→ (to_z w64 n) (pos 0) e))))
 
 module _ (t r s : ℤ) (b : Bool) (near : nat_abs t ≤ 2305843009213693952) (e : r ≡ rb s) (f : s ≡ step b) where
   step_is : wb r ≡ step b

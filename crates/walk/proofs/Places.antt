@@ -99,10 +99,18 @@ module _ {h g k a : ℕ} where
   starts_even v s = record { at = omega (arith, s.at, twice (k / 2) g, ap (λ j. j * 2 ^ g) (half_even k v)) }
 
   pub starts_odd : {f : ℕ} → Level h (suc f) g k → even k ≡ false → Starts h g k a → Earlier h g k a (a - 2 ^ g)
-  starts_odd {f} l v s = record { before = record { at = omega (arith, facts) }; above = record { at = omega (arith, facts, twice (k / 2) g, ap (λ j. j * 2 ^ g) (half_odd k v)) }; is = omega (arith, facts) }
+  starts_odd {f} l v s = record {
+    before = record { at = omega (arith, facts) };
+    above = record { at = omega (arith, facts, twice (k / 2) g, ap (λ j. j * 2 ^ g) (half_odd k v)) };
+    is = omega (arith, facts);
+  }
     where
       facts : (2 ^ h + a ≡ k * 2 ^ g) × (2 ^ h ≤ (k - 1) * 2 ^ g) × (k * 2 ^ g ≡ ((k - 1) + 1) * 2 ^ g)
-      facts = (s.at, level_low (level_before l (even_no k v)), ap (λ j. j * 2 ^ g) (let o : k ≡ (k - 1) + 1 = omega (arith, even_no k v) in o))
+      facts = (
+        s.at,
+        level_low (level_before l (even_no k v)),
+        ap (λ j. j * 2 ^ g) (let o : k ≡ (k - 1) + 1 = omega (arith, even_no k v) in o),
+      )
 
 -- "Entry k below L joins 2k and 2k+1": so an entry sums up the stretch over which it stands
 pub stands : (h : ℕ) (w : List Bool) {f g k a : ℕ} → Level h f g k → Starts h g k a → entry h w k ≡ summary_of (stretch w g a)

@@ -35,14 +35,24 @@ module _ (h : ℕ) (w : List Bool) where
       → depth_of (take (256 * b) w) +ℤ (d +ℤ s.total) ≡ depth_of (take (256 * a) w) +ℤ d
   over g a b d s i e =
       let c : 256 * a ≡ 256 * b + 256 * 2 ^ g = omega arith in
-      let q : depth_of (take (256 * a) w) ≡ depth_of (take (256 * b) w) +ℤ depth_of (stretch w g b) = ap (λ (j : ℕ). depth_of (take j w)) c ∙ depth_part (256 * b) (256 * 2 ^ g) w in
-      omega (zarith, q, e, +law (depth_of (take (256 * b) w)) (d +ℤ s.total), +law d s.total, +law (depth_of (take (256 * b) w)) (depth_of (stretch w g b)), +law (depth_of (take (256 * a) w)) d)
+      let q : depth_of (take (256 * a) w) ≡ depth_of (take (256 * b) w) +ℤ depth_of (stretch w g b) =
+      ap (λ (j : ℕ). depth_of (take j w)) c ∙ depth_part (256 * b) (256 * 2 ^ g) w in
+      omega (
+        zarith,
+        q,
+        e,
+        +law (depth_of (take (256 * b) w)) (d +ℤ s.total),
+        +law d s.total,
+        +law (depth_of (take (256 * b) w)) (depth_of (stretch w g b)),
+        +law (depth_of (take (256 * a) w)) d,
+      )
 
   up_suc : (f : ℕ) → Up f → Up (suc f)
   unfolding prefix_up
   up_suc f ih g k a d n l b = rw (ne_eqb k 1 (not_one l)) (by_test (even k)
       (λ v. let r = ih (suc g) (k / 2) a d n (level_up l) (starts_even v b) in rw v (r.0, omega (arith, r.1)))
-      (λ v. let u = starts_odd l v b in let r = ih (suc g) (k / 2) (a - 2 ^ g) (d +ℤ (entry h w (k - 1)).total) (n + 1) (level_up l) u.above in
+      (λ v. let u = starts_odd l v b in
+      let r = ih (suc g) (k / 2) (a - 2 ^ g) (d +ℤ (entry h w (k - 1)).total) (n + 1) (level_up l) u.above in
       rw v (r.0 ∙ over g a (a - 2 ^ g) d (entry h w (k - 1)) u.is (total v u), omega (arith, r.1))))
     where
       total : even k ≡ false → Earlier h g k a (a - 2 ^ g) → (entry h w (k - 1)).total ≡ depth_of (stretch w g (a - 2 ^ g))
@@ -59,7 +69,8 @@ module _ (h : ℕ) (w : List Bool) where
 
     -- "Prefix at p < m: D(p)."
     pub prefix_is : (prefix h w p).0 ≡ D w p
-    prefix_is = climbed.0 ∙ sym (depth_part (256 * (p / 256)) (p % 256) w) ∙ ap (λ (j : ℕ). depth_of (take j w)) (let e : 256 * (p / 256) + p % 256 ≡ p = omega arith in e) ∙ sym (D_depth w p)
+    prefix_is = climbed.0 ∙ sym (depth_part (256 * (p / 256)) (p % 256) w)
+        ∙ ap (λ (j : ℕ). depth_of (take j w)) (let e : 256 * (p / 256) + p % 256 ≡ p = omega arith in e) ∙ sym (D_depth w p)
 
     pub prefix_reads : (prefix h w p).1 ≤ h
     prefix_reads = omega (arith, climbed.1)

@@ -17,7 +17,8 @@ use Rattle.index.specs.Shape.{entry, even}
 use Rattle.index.proofs.Level.{Level, even_yes, even_no, level_up, level_next, level_before}
 use Rattle.walk.specs.Scan.{ahead, up_to}
 use Rattle.walk.specs.Range.{range_up, range}
-use Rattle.walk.proofs.Places.{Starts, Ends, stretch, leaf_level, leaf_starts, leaf_ends, next_starts, ends_even, ends_odd, starts_even, starts_odd, stands}
+use Rattle.walk.proofs.Places.{Starts, Ends, stretch, stands}
+use Rattle.walk.proofs.Places.{leaf_level, leaf_starts, leaf_ends, next_starts, ends_even, ends_odd, starts_even, starts_odd}
 
 -- the blocks from a to c
 abbrev pub mid : List Bool → ℕ → ℕ → List Bool
@@ -69,7 +70,14 @@ module _ (h : ℕ) (w : List Bool) where
 
   right : {f g r c : ℕ} → Level h (suc f) g r → Starts h g r c → Right g r c
   right {f} {g} {r} {c} l b = by_test (even r)
-      (λ v. record { bits = []; start = c; early = omega arith; starts = starts_even v b; sum = λ y. rw v; part = λ a o. sym (append-nil (mid w a c)) })
+      (λ v. record {
+        bits = [];
+        start = c;
+        early = omega arith;
+        starts = starts_even v b;
+        sum = λ y. rw v;
+        part = λ a o. sym (append-nil (mid w a c));
+      })
       (λ v. let u = starts_odd l v b in record {
         bits = stretch w g (c - 2 ^ g);
         start = c - 2 ^ g;
@@ -82,7 +90,8 @@ module _ (h : ℕ) (w : List Bool) where
   -- entry k ends before block a, entry r starts at block c; x and y are the bits outside, whose summaries are joined already
   abbrev Up : ℕ → Type 0
   Up f = (g k r a c : ℕ) (x y : List Bool) (n : ℕ) → Level h f g k → Level h f g r → k < r → Ends h g k a → Starts h g r c
-      → ((range_up (entry h w) f k r (summary_of x) (summary_of y) n).0 ≡ summary_of (x ++ (mid w a c ++ y))) × ((range_up (entry h w) f k r (summary_of x) (summary_of y) n).1 ≤ n + 2 * (f - 1))
+      → ((range_up (entry h w) f k r (summary_of x) (summary_of y) n).0 ≡ summary_of (x ++ (mid w a c ++ y)))
+      × ((range_up (entry h w) f k r (summary_of x) (summary_of y) n).1 ≤ n + 2 * (f - 1))
 
   up_zero : Up 0
   up_zero g k r a c x y n l m b p q = absurd (omega (arith, l.low, m.high))
@@ -130,12 +139,15 @@ module _ (h : ℕ) (w : List Bool) where
       (λ e. rw e (on (omega (arith, differ (k / 2) (r / 2) e)) (left l p) (right m q)))
     where
       on : k / 2 < r / 2 → (u : Left g k a) (v : Right g r c)
-          → ((range_up (entry h w) f (k / 2) (r / 2) (cond (even k) (join_of (summary_of x) (entry h w (k + 1))) (summary_of x)) (cond (even r) (summary_of y) (join_of (entry h w (r - 1)) (summary_of y))) (n + (cond (even k) 1 0 + cond (even r) 0 1))).0
+          → ((range_up (entry h w) f (k / 2) (r / 2) (cond (even k) (join_of (summary_of x) (entry h w (k + 1))) (summary_of x))
+          (cond (even r) (summary_of y) (join_of (entry h w (r - 1)) (summary_of y))) (n + (cond (even k) 1 0 + cond (even r) 0 1))).0
           ≡ summary_of (x ++ (mid w a c ++ y)))
-          × ((range_up (entry h w) f (k / 2) (r / 2) (cond (even k) (join_of (summary_of x) (entry h w (k + 1))) (summary_of x)) (cond (even r) (summary_of y) (join_of (entry h w (r - 1)) (summary_of y))) (n + (cond (even k) 1 0 + cond (even r) 0 1))).1
+          × ((range_up (entry h w) f (k / 2) (r / 2) (cond (even k) (join_of (summary_of x) (entry h w (k + 1))) (summary_of x))
+          (cond (even r) (summary_of y) (join_of (entry h w (r - 1)) (summary_of y))) (n + (cond (even k) 1 0 + cond (even r) 0 1))).1
           ≤ n + 2 * (suc f - 1))
       on o u v =
-          let i = ih (suc g) (k / 2) (r / 2) u.end v.start (x ++ u.bits) (v.bits ++ y) (n + (cond (even k) 1 0 + cond (even r) 0 1)) (level_up l) (level_up m) o u.ends v.starts in
+          let i = ih (suc g) (k / 2) (r / 2) u.end v.start (x ++ u.bits) (v.bits ++ y) (n + (cond (even k) 1 0 + cond (even r) 0 1))
+          (level_up l) (level_up m) o u.ends v.starts in
           rw (u.sum x, v.sum y) (
             i.0 ∙ ap summary_of (around x y u v (ordered (suc g) (k / 2) (r / 2) u.end v.start u.ends v.starts o)),
             omega (arith, i.1, few k r, apart (level_up l) (level_up m) o),
@@ -170,7 +182,8 @@ module _ (h : ℕ) (w : List Bool) where
         (λ e. rw e (refl, omega arith))
         (λ e. let l : a / 256 < c / 256 = omega (arith, differ (a / 256) (c / 256) e) in
         let i = up h 0 (2 ^ h + a / 256) (2 ^ h + c / 256) (suc (a / 256)) (c / 256) (ahead w a) (up_to w c) 0
-        (leaf_level h (length w) a m (omega arith)) (leaf_level h (length w) c m b) (omega arith) (leaf_ends h (a / 256)) (leaf_starts h (c / 256)) in
+        (leaf_level h (length w) a m (omega arith)) (leaf_level h (length w) c m b) (omega arith) (leaf_ends h (a / 256))
+        (leaf_starts h (c / 256)) in
         rw e (i.0 ∙ ap summary_of (pieces l), omega (arith, i.1))))
 
   module _ (m : length w ≤ 256 * 2 ^ h) where

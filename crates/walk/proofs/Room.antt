@@ -55,7 +55,11 @@ module _ (run : ℕ → Walk → Climb) (v : Walk) where
         lower = omega (arith, e.half, c.lower);
         room = omega (arith, e.half, e.near, c.room, c.above);
         count = omega (arith, e.half, e.reads, c.count, c.above);
-        left = λ n l. inner n (c.left n l) (λ s b i. record { rest = s; below = omega (arith, b, e.half, two-pow-succ (suc s)); is = e.on s ∙ i });
+        left = λ n l. inner n (c.left n l) (λ s b i. record {
+          rest = s;
+          below = omega (arith, b, e.half, two-pow-succ (suc s));
+          is = e.on s ∙ i;
+        });
       }
 
 -- ---- down, to an entry from l on
@@ -94,8 +98,14 @@ module _ (run : ℕ → Walk → Walk) (l : ℕ) (v : Walk) where
       }
 
 -- ---- past the block of boundary p, the walk stands at that block's leaf
-pub ready_at : (bytes : List ℕ) (idx : List ℤ) (m l p : ℕ) (t : ℤ) → Lent bytes idx m l → p < m → nat_abs t ≤ 17179869184 → Ready l (walk (l + p / 256) t 0)
-ready_at bytes idx m l p t lent b near = record { leaf = omega arith; inside = omega (arith, height_reaches m, lent.leaves); want = near; reads = refl }
+pub ready_at : (bytes : List ℕ) (idx : List ℤ) (m l p : ℕ) (t : ℤ) → Lent bytes idx m l → p < m → nat_abs t ≤ 17179869184
+    → Ready l (walk (l + p / 256) t 0)
+ready_at bytes idx m l p t lent b near = record {
+  leaf = omega arith;
+  inside = omega (arith, height_reaches m, lent.leaves);
+  want = near;
+  reads = refl;
+}
 
 -- ---- a walk that starts at a leaf keeps its room to the end
 module _ (bytes : List ℕ) (idx : List ℤ) (m l : ℕ) (v : Walk) (lent : Lent bytes idx m l) (ready : Ready l v) where
@@ -119,5 +129,6 @@ module _ (bytes : List ℕ) (idx : List ℤ) (m l : ℕ) (v : Walk) (lent : Lent
       count = omega (arith, near.3, ready.inside, ready.reads, few);
     }
 
-    pub low_leaf : {run : ℕ → Walk → Walk} (x : Walk) → Sunk run l u x → (l ≤ x.entry) × (x.entry ≤ 16384) × (nat_abs x.want ≤ 1152921504606846976)
+    pub low_leaf : {run : ℕ → Walk → Walk} (x : Walk) → Sunk run l u x → (l ≤ x.entry) × (x.entry ≤ 16384)
+        × (nat_abs x.want ≤ 1152921504606846976)
     low_leaf x k = omega (arith, k.leaf, k.low, few, k.near, near.2, ready.want, ready.inside)

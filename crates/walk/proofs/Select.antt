@@ -21,9 +21,12 @@ use Rattle.walk.specs.Select.{openings, select_down, leaf_nth, select}
 use Rattle.walk.proofs.Options.{some_is, none_some}
 use Rattle.walk.proofs.Places.{Starts, stretch, left_half, right_half, root_level, root_starts, left_starts, right_starts, stands}
 
-pub nth_split : (n i : ℕ) (z : List Bool) (r : ℕ) → nth i z r ≡ cond (ltb r (opens (take n z))) (nth i (take n z) r) (nth (i + n) (drop n z) (r - opens (take n z)))
+pub nth_split : (n i : ℕ) (z : List Bool) (r : ℕ)
+    → nth i z r ≡ cond (ltb r (opens (take n z))) (nth i (take n z) r) (nth (i + n) (drop n z) (r - opens (take n z)))
 unfolding nth opens
-nth_split zero i z r = let e : i + 0 ≡ i = omega arith in let d : r - 0 ≡ r = omega arith in rw (not_true (ltb r 0) (λ y. omega (arith, ltb→lt r 0 (true_T y))), e, d)
+nth_split zero i z r =
+    let e : i + 0 ≡ i = omega arith in let d : r - 0 ≡ r = omega arith in
+    rw (not_true (ltb r 0) (λ y. omega (arith, ltb→lt r 0 (true_T y))), e, d)
 nth_split (suc n) i [] r = by_test (ltb r 0) (λ y. rw y) (λ y. rw y)
 nth_split (suc n) i (false ∷ z) r =
     let e : i + suc n ≡ suc i + n = omega arith in let d : 0 + opens (take n z) ≡ opens (take n z) = omega arith in
@@ -37,7 +40,9 @@ nth_split (suc n) i (true ∷ z) (suc r) =
     test : ltb (suc r) (1 + opens (take n z)) ≡ ltb r (opens (take n z))
     test = by_test (ltb r (opens (take n z)))
         (λ y. rw y (T_true _ (lt→ltb (suc r) (1 + opens (take n z)) (omega (arith, ltb→lt r (opens (take n z)) (true_T y))))))
-        (λ y. rw y (not_true _ (λ x. true≢false (sym (T_true _ (lt→ltb r (opens (take n z)) (omega (arith, ltb→lt (suc r) (1 + opens (take n z)) (true_T x))))) ∙ y))))
+        (λ y. rw y (not_true _
+        (λ x. true≢false (sym (T_true _ (lt→ltb r (opens (take n z)) (omega (arith, ltb→lt (suc r) (1 + opens (take n z)) (true_T x)))))
+        ∙ y))))
 
 nth_past : (w : List Bool) (r i q : ℕ) → nth i w r ≡ some q → i ≤ q
 unfolding nth
@@ -66,12 +71,14 @@ nth_none (false ∷ w) r i e = nth_none w r (suc i) e
 module _ (h : ℕ) (w : List Bool) where
   openings_are : (g a : ℕ) (s : Summary) → s ≡ summary_of (stretch w g a) → openings (length w) g a s ≡ opens (stretch w g a)
   openings_are g a s e =
-      let l : length (stretch w g a) ≡ min (256 * 2 ^ g) (length w - 256 * a) = omega (arith, length-take (256 * 2 ^ g) (drop (256 * a) w), length-drop (256 * a) w) in
+      let l : length (stretch w g a) ≡ min (256 * 2 ^ g) (length w - 256 * a) =
+      omega (arith, length-take (256 * 2 ^ g) (drop (256 * a) w), length-drop (256 * a) w) in
       rw (e, total_is, ← l) (sym (opens_is (stretch w g a)))
 
   -- the way down from an entry over 2 ^ g blocks: g reads
   abbrev Down : ℕ → Type 0
-  Down g = (f k a r n : ℕ) → Level h f g k → Starts h g k a → leaf_nth w (select_down (entry h w) (length w) g k a r n) ≡ (nth (256 * a) (stretch w g a) r, n + g)
+  Down g = (f k a r n : ℕ) → Level h f g k → Starts h g k a → leaf_nth w (select_down (entry h w) (length w) g k a r n)
+      ≡ (nth (256 * a) (stretch w g a) r, n + g)
 
   down_zero : Down 0
   unfolding select_down
@@ -102,7 +109,8 @@ module _ (h : ℕ) (w : List Bool) where
   -- the opening with number r: r openings stand before it
   module _ (m : length w ≤ 256 * 2 ^ h) (r : ℕ) where
     pub select_some : (q : ℕ) → (select h w r).0 ≡ some q → (get_or w q false ≡ true) × (count true (take q w) ≡ r)
-    select_some q e = nth_some w r 0 q (sym (ap (λ (x : Reach). x.0) (select_is m r)) ∙ e ∙ ap {B = Option ℕ} some (let z : q ≡ 0 + q = omega arith in z))
+    select_some q e = nth_some w r 0 q
+        (sym (ap (λ (x : Reach). x.0) (select_is m r)) ∙ e ∙ ap {B = Option ℕ} some (let z : q ≡ 0 + q = omega arith in z))
 
     pub select_none : (select h w r).0 ≡ none → count true w ≤ r
     select_none e = nth_none w r 0 (sym (ap (λ (x : Reach). x.0) (select_is m r)) ∙ e)

@@ -15,7 +15,6 @@ use Rattle.word.specs.Settles.{Settles}
 use Rattle.word.proofs.Signed.{true≢false}
 use Rattle.word.proofs.Settled.{by_equation, by_telling}
 use Rattle.summary.specs.declared.Summary.{Summary}
-use Rattle.summary.specs.Stretch.{step}
 use Rattle.index.specs.Lent.{entry_at}
 use Rattle.walk.specs.declared.Counted.{Counted}
 use Rattle.walk.specs.declared.Walk.{Walk}
@@ -74,9 +73,6 @@ zero_settled x = by_equation (eq_z x (pos 0))
 pub holds_settled : (s : Summary) (want : ℤ) → Settles {A = Bool} (λ r. r ≡ hit s want)
 holds_settled s want = by_equation (hit s want)
 
-pub step_settled : (opens : Bool) → Settles {A = ℤ} (λ r. r ≡ step opens)
-step_settled opens = by_equation (step opens)
-
 pub minus_settled : (want total : ℤ) → Settles {A = ℤ} (λ r. r ≡ want -ℤ total)
 minus_settled want total = by_equation (want -ℤ total)
 
@@ -104,7 +100,8 @@ abbrev ended : Climb → Bool
 ended (Top v) = true
 ended (Enter v) = false
 
-module _ {climb : (ℕ → Summary) → ℕ → Walk → Climb} {descent : (ℕ → Summary) → ℕ → ℕ → Walk → Walk} {leaf : ℕ → List Bool → Walk → Reach} {landed : ℕ → List Bool → Climb → Reach}
+module _ {climb : (ℕ → Summary) → ℕ → Walk → Climb} {descent : (ℕ → Summary) → ℕ → ℕ → Walk → Walk} {leaf : ℕ → List Bool → Walk → Reach}
+    {landed : ℕ → List Bool → Climb → Reach}
     (laws : WayLaws climb descent leaf landed) (e : ℕ → Summary) (w : Walk) where
   on_apart : (u v : Walk) → Up (climb e) w u → Into (climb e) w v → ⊥
   on_apart u v p q = true≢false (ap ended (laws.halted e u ∙ p.on 0 ∙ sym (q.is 0)))

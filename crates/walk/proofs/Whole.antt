@@ -18,14 +18,17 @@ use Rattle.walk.specs.Room.{Ready, Near, Climbed, Hold, Sunk}
 use Rattle.walk.specs.Way.{WayLaws}
 use Rattle.walk.proofs.Room.{hold, low_leaf}
 
-module _ {climb : (ℕ → Summary) → ℕ → Walk → Climb} {descent : (ℕ → Summary) → ℕ → ℕ → Walk → Walk} {leaf : ℕ → List Bool → Walk → Reach} {landed : ℕ → List Bool → Climb → Reach}
-    (laws : WayLaws climb descent leaf landed) (bytes : List ℕ) (idx : List ℤ) (m l : ℕ) (v : Walk) (lent : Lent bytes idx m l) (ready : Ready l v) where
+module _ {climb : (ℕ → Summary) → ℕ → Walk → Climb} {descent : (ℕ → Summary) → ℕ → ℕ → Walk → Walk} {leaf : ℕ → List Bool → Walk → Reach}
+    {landed : ℕ → List Bool → Climb → Reach}
+    (laws : WayLaws climb descent leaf landed) (bytes : List ℕ) (idx : List ℤ) (m l : ℕ) (v : Walk) (lent : Lent bytes idx m l)
+    (ready : Ready l v) where
   abbrev e : ℕ → Summary
   e = entry (height m) (word bytes m)
 
   module _ (r : Climb) (c : Climbed (climb e) v r) where
     pub landing : (u : Climb) → r ≡ u → landed (height m) (word bytes m) u ≡ landed (height m) (word bytes m) (climb e (height m) v)
-    landing u q = ap (landed (height m) (word bytes m)) (sym q ∙ c.same (height m) (omega (arith, ready.inside, lent.leaves, two-pow-succ (height m))))
+    landing u q = ap (landed (height m) (word bytes m))
+        (sym q ∙ c.same (height m) (omega (arith, ready.inside, lent.leaves, two-pow-succ (height m))))
 
     module _ (u : Walk) (q : r ≡ Enter u) where
       near : Near v (Enter u)

@@ -26,7 +26,9 @@ climb_back e (suc s) k t n = cond (eqb k 1) (Top (walk k t n)) (cond (even k)
 unfoldable pub descend_back : (ℕ → Summary) → ℕ → ℕ → ℕ → ℤ → ℕ → Walk
 descend_back e l zero k t n = walk k t n
 descend_back e l (suc s) k t n = cond (leb l k) (walk k t n)
-    (cond (hit_back (e (2 * k + 1)) t) (descend_back e l s (2 * k + 1) t (n + 1)) (descend_back e l s (2 * k) (t +ℤ (e (2 * k + 1)).total) (n + 1)))
+    (cond (hit_back (e (2 * k + 1)) t)
+    (descend_back e l s (2 * k + 1) t (n + 1))
+    (descend_back e l s (2 * k) (t +ℤ (e (2 * k + 1)).total) (n + 1)))
 
 -- the scan of the leaf reached, from its end boundary down
 abbrev pub leaf_back : ℕ → List Bool → Walk → Reach
@@ -46,4 +48,5 @@ from_start w p t = t +ℤ depth_of (up_to w p)
 unfoldable pub backward : ℕ → List Bool → ℕ → ℤ → Reach
 backward h w zero t = (none, 0)
 backward h w (suc p) t =
-    either (final (256 * (p / 256)) (behind w p) (from_start w p t)) (landed_back h w (climb_back (entry h w) h (2 ^ h + p / 256) (from_start w p t) 0))
+    either (final (256 * (p / 256)) (behind w p) (from_start w p t))
+    (landed_back h w (climb_back (entry h w) h (2 ^ h + p / 256) (from_start w p t) 0))

@@ -1,5 +1,6 @@
--- What a walk's climb and its way down ask and give, whatever is done at each entry: `run s v` is what the definition gives from state v in s
--- steps. A total is below 2 ^ 31, and a step halves or doubles the entry: the steps are fewer than the entries, and the numbers stay in range.
+-- What a walk's climb and its way down ask and give, whatever is done at each entry: `run s v` is what the definition gives from state v
+-- in s steps. A total is below 2 ^ 31, and a step halves or doubles the entry: the steps are fewer than the entries, and the numbers stay
+-- in range.
 use Rattle.std.specs.Prelude.{◌≡◌, ℕ, suc, ◌+◌, ◌*◌, ◌^◌, ◌≤◌, ◌<◌, nat_abs}
 use Rattle.walk.specs.declared.Walk.{Walk}
 use Rattle.walk.specs.declared.Climb.{Climb}
@@ -25,7 +26,8 @@ pub record Footing (l : ℕ) (v : Walk) : Type 0 where
 
 -- an entry to go down into is near the one where the climb began
 abbrev pub Near : Walk → Climb → Type 0
-Near v (Enter u) = (0 < u.entry) × (u.entry ≤ v.entry + 1) × (nat_abs u.want ≤ nat_abs v.want + 2147483648 * v.entry) × (u.reads ≤ v.reads + v.entry)
+Near v (Enter u) =
+    (0 < u.entry) × (u.entry ≤ v.entry + 1) × (nat_abs u.want ≤ nat_abs v.want + 2147483648 * v.entry) × (u.reads ≤ v.reads + v.entry)
 Near v (Top u) = Unit {0}
 
 -- a climb gives what the definition gives, in as many steps as bring the entry to 1

@@ -1,5 +1,6 @@
 -- The scans of bits, which read no entry: within the block where a walk starts, and of the leaf that it reaches.
-use Rattle.std.specs.Prelude.{Result, Ok, Err, Bool, true, false, cond, List, [], ◌∷◌, ℕ, zero, suc, ◌-◌, ◌*◌, ◌/◌, ◌%◌, take, drop, ℤ, ◌-ℤ◌}
+use Rattle.std.specs.Prelude.{Result, Ok, Err}
+use Rattle.std.specs.Prelude.{Bool, true, false, cond, List, [], ◌∷◌, ℕ, zero, suc, ◌-◌, ◌*◌, ◌/◌, ◌%◌, take, drop, ℤ, ◌-ℤ◌}
 use Rattle.std.proofs.Math.Option.{Option, none, some}
 use Rattle.word.specs.Signed.{eq_z}
 use Rattle.summary.specs.Stretch.{step}

@@ -5,7 +5,6 @@
 ghost use Rattle.std.specs.Prelude.{◌≡◌, false, cond, ◌+◌, ◌*◌, ◌/◌, ◌<◌, ◌≤◌, min, length, pos, nat_abs, ◌+ℤ◌, ◌-ℤ◌};
 ghost use Rattle.std.specs.Int.Signed.{le_z};
 ghost use Rattle.word.specs.Signed.{eq_z};
-ghost use Rattle.summary.specs.Stretch.{step};
 ghost use Rattle.summary.specs.Join.{empty_of};
 ghost use Rattle.index.specs.Lent.{entry_at};
 ghost use Rattle.walk.specs.Walk.{walk, seen, hit};
@@ -33,7 +32,8 @@ pub struct Walk {
     pub reads: u32,
 }
 
-// A climb ends at an entry to go down into, or at entry 1.
+// A climb ends at an entry to go down into, or at entry 1. The definitions of both walks name the two ends, Enter and Top, and go on from
+// both: a `Result` would call one of them an error.
 #[derive(Clone, Copy)]
 pub enum Climb {
     Enter(Walk),
@@ -52,15 +52,18 @@ pub fn read(index: &[i32], k: usize, reads: u32) -> Counted<Summary>
 }
 
 // Where the rule reads no entry: nothing was seen.
+#[tactic(auto, unfolding(summary::specs::Join::empty_of))]
 fn unread(reads: u32) -> Counted<Summary>
     ensures { result ≡ seen empty_of reads }
 {
     Counted {
-        value: summary::empty(),
+        value: Summary::EMPTY,
         reads,
     }
 }
 
+// The entry on the side to which a climb goes. `after` and `before` stay two: each reads at its own entries, on its own side, by a rule
+// of its own.
 // "at an even entry k read k+1"
 pub fn after(index: &[i32], k: usize, reads: u32) -> Counted<Summary>
     requires { (8 * (k / 2) + 7 < length index.now) × (reads ≤ 1073741824) }
@@ -96,11 +99,7 @@ pub fn holds(s: Summary, want: i64) -> bool
 }
 
 // What one bit adds to the depth.
-pub fn step(opens: bool) -> i32
-    ensures { result ≡ step opens }
-{
-    if opens { 1 } else { -1 }
-}
+pub use summary::step;
 
 impl Walk {
     // To entry k, with the same amount wanted.
@@ -114,6 +113,7 @@ impl Walk {
         }
     }
 
+    // `less` and `more` stay two, as the rules are: a sign handed in would say less than either name.
     // To entry k: "take its total off t".
     pub fn less(self, k: usize, seen: Counted<Summary>) -> Walk
         requires { nat_abs self.want ≤ 2305843009213693952 }

@@ -37,7 +37,8 @@ pub trait Way {
         requires { (w.entry < lineage.now.l) × Steady w }
         ensures { Down (descent_of (entries lineage.now.row) lineage.now.l) w result };
 
-    // The scan of the leaf reached.
+    // The scan of the leaf reached. Each way has its own, since each scans from its own end: to share the few lines around the scan would
+    // take one definition more, and a law to tie it to `leaf_of`.
     fn leaf(lineage: &Lineage<'_>, w: Walk) -> Counted<Option<usize>>
         requires { (lineage.now.l ≤ w.entry) × (w.entry ≤ 16384) × (nat_abs w.want ≤ 1152921504606846976) }
         ensures { said result ≡ leaf_of lineage.now.l (word_of lineage.now.row) w };
@@ -47,19 +48,21 @@ pub trait Way {
         ensures { (h : ℕ) (x : List Bool) → said result ≡ landed_of h x (Top w) };
 }
 
-// The climb: until an entry is to be gone down into, or entry 1 is reached.
+// The climb: a loop that breaks with the entry to go down into, or at entry 1.
 fn climb<W: Way>(lineage: &Lineage<'_>, start: Walk) -> Climb
     requires { Footing lineage.now.l start }
     ensures { Climbed (W.climb_of (entries lineage.now.row)) start result }
 {
     let mut w = start;
-    while w.entry != 1 {
+    loop {
+        if w.entry == 1 {
+            break Climb::Top(w);
+        }
         match W::up(lineage, w) {
             ControlFlow::Continue(next) => w = next,
-            ControlFlow::Break(beside) => return Climb::Enter(beside),
+            ControlFlow::Break(beside) => break Climb::Enter(beside),
         }
     }
-    Climb::Top(w)
 }
 
 // The way down, as far as a leaf.

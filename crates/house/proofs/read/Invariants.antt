@@ -1,4 +1,5 @@
--- `house::read` meets its contract. The invariant is `Reading`: what is still to come, laid over the lent slices as they are, gives what the whole file gives.
+-- `house::read` meets its contract. The invariant is `Reading`: what is still to come,
+-- laid over the lent slices as they are, gives what the whole file gives.
 -- The measure is what is left of the file. Each arm cites the law of its kind of field. Assumes nothing.
 use Prim.Native.Nat.{◌-◌}
 use lib.ListN.{length}

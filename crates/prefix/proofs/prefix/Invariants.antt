@@ -2,8 +2,8 @@
 use Rattle.prefix.proofs.Climb.{Kept}
 use Rattle.prefix.proofs.prefix.Given as goal
 
-abbrev pub invariant-loop-v : goal.invariant-loop-v
-invariant-loop-v l = Kept l.lineage.row l.p l.v
+abbrev pub invariant-loop-w : goal.invariant-loop-w
+invariant-loop-w l = Kept l.lineage.row l.p l.w
 
-abbrev pub decreases-loop-v : goal.decreases-loop-v
-decreases-loop-v l = l.v.entry
+abbrev pub decreases-loop-w : goal.decreases-loop-w
+decreases-loop-w l = l.w.entry

@@ -8,16 +8,19 @@ returns-then-i-j c = let a = c.args in near a.lineage.now a.a a.b c.requires.0 c
 
 pub loop-v-init : goal.loop-v-init
 loop-v-init c = let a = c.args in
-    kept_start a.lineage.now a.a a.b c.requires.0 c.requires.1 c.stretch-2.result c.stretch-3.result (omega arith) c.stretch-2.ensures c.stretch-3.ensures
+    kept_start a.lineage.now a.a a.b c.requires.0 c.requires.1 c.stretch-2.result c.stretch-3.result
+    (omega arith) c.stretch-2.ensures c.stretch-3.ensures
 
 pub up-v-requires : goal.up-v-requires
 up-v-requires c = let a = c.args in joins a.lineage.now a.a a.b c.loop-v.v c.loop-v.invariant
 
 pub loop-v-preserved : goal.loop-v-preserved
-loop-v-preserved c = let a = c.args in kept_on a.lineage.now a.a a.b c.loop-v.v c.loop-v.invariant (omega arith) c.up-v.result c.up-v.ensures
+loop-v-preserved c =
+    let a = c.args in kept_on a.lineage.now a.a a.b c.loop-v.v c.loop-v.invariant (omega arith) c.up-v.result c.up-v.ensures
 
 pub join-requires : goal.join-requires
-join-requires c = let a = c.args in (bounded_left a.lineage.now a.a a.b c.loop-v.v c.loop-v.invariant, bounded_right a.lineage.now a.a a.b c.loop-v.v c.loop-v.invariant)
+join-requires c = let a = c.args in
+    (bounded_left a.lineage.now a.a a.b c.loop-v.v c.loop-v.invariant, bounded_right a.lineage.now a.a a.b c.loop-v.v c.loop-v.invariant)
 
 pub returns : goal.returns
 returns c = let a = c.args in rw c.join.ensures (kept_end a.lineage.now a.a a.b c.loop-v.v c.loop-v.invariant (omega arith))

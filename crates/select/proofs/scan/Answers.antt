@@ -14,5 +14,6 @@ pub returns : goal.returns
 returns c = let a = c.args in
     ap there (sym (option_map_id c.nth.result)
     ∙ nth_from_yields_List c.nth.result c.nth.new.self a.number c.nth.ensures.ran (YieldsList-from_filter _ (bit a.bytes.now)
-    (YieldsList-at c.filter.ensures.source (YieldsList-from_range a.from a.to (a.to - a.from) refl refl)) c.filter.ensures.closure (λ x r q k. search (rules, tests))))
+    (YieldsList-at c.filter.ensures.source (YieldsList-from_range a.from a.to (a.to - a.from) refl refl)) c.filter.ensures.closure
+    (λ x r q k. search (rules, tests))))
     ∙ nth_is a.bytes.now a.from (a.to - a.from) a.number

@@ -16,4 +16,5 @@ pub overflow_mul-b : goal.overflow_mul-b
 overflow_mul-b c = omega (zarith, block_near c.args.lineage.now c.args.r c.loop-v.v c.loop-v.invariant)
 
 pub returns : goal.returns
-returns c = rw c.scan.ensures (kept_end c.args.lineage.now c.args.r c.loop-v.v c.loop-v.invariant (omega zarith) c.end_of.result c.end_of.ensures)
+returns c = rw c.scan.ensures
+    (kept_end c.args.lineage.now c.args.r c.loop-v.v c.loop-v.invariant (omega zarith) c.end_of.result c.end_of.ensures)

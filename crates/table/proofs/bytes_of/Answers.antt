@@ -1,5 +1,6 @@
 -- The loop of `bytes_of`: one byte more, by its row. Assumes nothing.
 use mathlib.Core.Path.{◌∙◌}
+use mathlib.Core.List.{[]}
 use Prim.Native.Nat.{◌+◌, ◌-◌, ◌*◌}
 use native.Mathlib.Omega.{arith}
 use Rattle.summary.specs.Join.{empty_of}
@@ -17,8 +18,8 @@ join-s-requires c =
     let l = c.loop-b in
     let i = l.b-index in
     let n = within a.bytes.now a.first (a.end - a.first) i c.loop-b-test.true in
-    let row = row_at c.table-rows.result.now a.bytes.now a.first (a.end - a.first) i empty_of c.table-rows.ensures.rows (c.type_inv.bytes (a.first + i)).fits c.loop-b-test.true in
-    (fits a.bytes.now (8 * a.first) (8 * i) l.invariant (omega arith), fits a.bytes.now (8 * (a.first + i)) 8 row (omega arith))
+    let row = row_at c.table-rows.result.now a.bytes.now a.first (a.end - a.first) i [] c.table-rows.ensures.rows (c.type_inv.bytes (a.first + i)).fits c.loop-b-test.true in
+    (fits a.bytes.now (8 * a.first) (8 * i) l.invariant (omega arith), fits a.bytes.now (8 * (a.first + i)) 8 (c.from.ensures ∙ row) (omega arith))
 
 pub loop-b-preserved : goal.loop-b-preserved
 unfolding empty_of
@@ -27,5 +28,5 @@ loop-b-preserved c =
     let l = c.loop-b in
     let i = l.b-index in
     let n = within a.bytes.now a.first (a.end - a.first) i c.loop-b-test.true in
-    let row = row_at c.table-rows.result.now a.bytes.now a.first (a.end - a.first) i empty_of c.table-rows.ensures.rows (c.type_inv.bytes (a.first + i)).fits c.loop-b-test.true in
-    c.join-s.ensures ∙ goes_on a.bytes.now (8 * a.first) (8 * i) l.invariant (8 * (a.first + i)) 8 (8 * (i + 1)) row (omega arith) (omega arith)
+    let row = row_at c.table-rows.result.now a.bytes.now a.first (a.end - a.first) i [] c.table-rows.ensures.rows (c.type_inv.bytes (a.first + i)).fits c.loop-b-test.true in
+    c.join-s.ensures ∙ goes_on a.bytes.now (8 * a.first) (8 * i) l.invariant (8 * (a.first + i)) 8 (8 * (i + 1)) (c.from.ensures ∙ row) (omega arith) (omega arith)

@@ -1,12 +1,10 @@
 -- One parenthesis: its summary is computed. Assumes nothing.
+use mathlib.Core.Path.{◌∙◌}
 use Rattle.summary.proofs.Append.{one}
 use Rattle.summary.proofs.Bounds.{summary_single}
+use Rattle.summary.proofs.Machine.{held}
 use Rattle.table.proofs.of_bit.Goals as goal
 
-pub returns-then-opens : goal.returns-then-opens
+pub returns : goal.returns
 unfolding one
-returns-then-opens c = simp (c.if-opens.true, summary_single)
-
-pub returns-else-opens : goal.returns-else-opens
-unfolding one
-returns-else-opens c = simp (c.if-opens.false, summary_single)
+returns c = c.from.ensures ∙ rw (held c.step-step.type_inv c.step-step.ensures, summary_single)

@@ -42,4 +42,5 @@ returns c =
     let p = kids_between r c.requires.0 c.requires.1 c.requires.2 in
     let t = range_near r _ _ p.0 p.1 c.range-r.ensures in
     let n = c.args.end.reads + c.range-r.result.reads in
-    c.answered.ensures ∙ ap (λ i. replied (gives i) n) t.count_cast ∙ children_told r c.requires.0 c.requires.1 c.requires.2 c.range-r.ensures
+    c.answered.ensures ∙ ap (λ i. replied (gives i) n) t.count_cast
+    ∙ children_told r c.requires.0 c.requires.1 c.requires.2 c.range-r.ensures

@@ -1,7 +1,7 @@
 -- `end_of` meets its contract.
 use native.Mathlib.Omega.{arith}
 use Rattle.answer.proofs.Walked.{row, node_in}
-use Rattle.answer.proofs.Told.{end_at}
+use Rattle.answer.proofs.Told.{ends_found, end_at}
 use Rattle.answer.proofs.branch.end_of.Goals as goal
 
 pub forward-found-requires : goal.forward-found-requires
@@ -9,5 +9,8 @@ forward-found-requires c =
     let r = row c.args.of.now in
     (omega (arith, node_in r c.requires), omega arith)
 
+pub unwrap-requires : goal.unwrap-requires
+unwrap-requires c = ends_found (row c.args.of.now) c.requires _ _ c.forward-found.ensures
+
 pub returns : goal.returns
-returns c = rw c.unwrap_or.ensures (end_at (row c.args.of.now) c.requires c.forward-found.result c.forward-found.ensures)
+returns c = end_at (row c.args.of.now) c.requires c.forward-found.ensures c.unwrap.ensures

@@ -31,4 +31,4 @@ returns-then-opens c =
 
 pub returns : goal.returns
 returns c =
-    c.missed.ensures ∙ no_child (row c.args.of.now) c.requires c.opens.ensures c.if-opens.false
+    c.refused.ensures ∙ no_child (row c.args.of.now) c.requires c.opens.ensures c.if-opens.false

@@ -18,4 +18,5 @@ answered-requires c = let t = deep (row c.args.of.now) c.requires c.prefix-d.ens
 
 pub returns : goal.returns
 returns c = let t = deep (row c.args.of.now) c.requires c.prefix-d.ensures in
-    c.answered.ensures ∙ ap (λ i. replied (gives i) c.prefix-d.result.reads) t.cast ∙ depth_told (row c.args.of.now) c.requires c.prefix-d.ensures
+    c.answered.ensures ∙ ap (λ i. replied (gives i) c.prefix-d.result.reads) t.cast
+    ∙ depth_told (row c.args.of.now) c.requires c.prefix-d.ensures

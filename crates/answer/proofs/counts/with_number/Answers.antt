@@ -6,7 +6,7 @@ use Rattle.answer.proofs.Told.{past_told, number_at}
 use Rattle.answer.proofs.counts.with_number.Goals as goal
 
 pub returns-then-of-r : goal.returns-then-of-r
-returns-then-of-r c = c.missed.ensures ∙ past_told (row c.args.of.now) c.if-of-r.true
+returns-then-of-r c = c.refused.ensures ∙ past_told (row c.args.of.now) c.if-of-r.true
 
 pub reached-requires : goal.reached-requires
 reached-requires c = (select_near (row c.args.of.now) _ c.select.ensures, omega arith)

@@ -10,11 +10,12 @@ use Rattle.answer.proofs.Told.{lowest_here, lowest_told}
 use Rattle.answer.proofs.Casts.{through, decided}
 use Rattle.answer.proofs.pairs.lower.Goals as goal
 
-pub returns-then-none_below : goal.returns-then-none_below
-returns-then-none_below c =
+pub returns-then-above : goal.returns-then-above
+returns-then-above c =
     let r = row c.args.of.now in
     let t = range_near r _ _ c.requires.0 c.requires.1 c.range-r.ensures in
-    c.answered.ensures ∙ lowest_here r c.requires.0 c.requires.1 c.range-r.ensures (decided (pos 0) t.least_back c.none_below.ensures c.if-none_below.true)
+    c.answered.ensures ∙ lowest_here r c.requires.0 c.requires.1 c.range-r.ensures
+    (decided (pos 0) t.least_back c.above.ensures c.if-above.true)
 
 pub forward-requires : goal.forward-requires
 forward-requires c =
@@ -35,5 +36,6 @@ returns c =
     let t = range_near r _ _ c.requires.0 c.requires.1 c.range-r.ensures in
     let x = c.args.of.now.lineage.row in
     let by = through t.least_small (c.from-by.ensures ∙ t.least_back) in
-    c.reached.ensures ∙ lowest_told r c.requires.0 c.requires.1 c.range-r.ensures (decided (pos 0) t.least_back c.none_below.ensures c.if-none_below.false)
+    c.reached.ensures ∙ lowest_told r c.requires.0 c.requires.1 c.range-r.ensures
+    (decided (pos 0) t.least_back c.above.ensures c.if-above.false)
     (c.forward.ensures ∙ ap (forward (height x.m) (word_of x) c.args.a) by)

@@ -16,13 +16,13 @@ range-r-requires c = (c.requires.2, omega (arith, node_in (row c.args.of.now) c.
 pub answered-requires : goal.answered-requires
 answered-requires c = omega (arith, node_in (row c.args.of.now) c.requires.0)
 
-pub returns-then-all_above : goal.returns-then-all_above
-returns-then-all_above c =
+pub returns-then-above : goal.returns-then-above
+returns-then-above c =
     let r = row c.args.of.now in
     let below = node_in r c.requires.1 in
     let t = range_near r _ _ c.requires.2 (omega arith) c.range-r.ensures in
     c.answered.ensures ∙ nearest_here r c.requires.2 (omega arith) c.range-r.ensures c.requires.0 c.requires.1
-    (decided (pos 1) t.least_back c.all_above.ensures c.if-all_above.true)
+    (decided (pos 1) t.least_back c.above.ensures c.if-above.true)
 
 pub backward-requires : goal.backward-requires
 backward-requires c =
@@ -47,5 +47,5 @@ returns c =
     let x = c.args.of.now.lineage.row in
     let by = through t.less_small (c.less_one-back.ensures ∙ ap (λ y. y -ℤ pos 1) t.least_back) in
     c.reached.ensures ∙ nearest_told r c.requires.2 (omega arith) c.range-r.ensures c.requires.0 c.requires.1
-    (decided (pos 1) t.least_back c.all_above.ensures c.if-all_above.false)
+    (decided (pos 1) t.least_back c.above.ensures c.if-above.false)
     (c.backward.ensures ∙ ap (backward (height x.m) (word_of x) c.args.a) by)

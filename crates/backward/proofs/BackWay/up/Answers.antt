@@ -10,9 +10,11 @@ use Rattle.backward.proofs.BackWay.up.Goals as goal
 pub returns-then-ends_well : goal.returns-then-ends_well
 returns-then-ends_well c = let w = c.args.w in
     let own = c.before-s.ensures ∙ before_own _ _ _ _ c.args.lineage.now.lent w.entry w.reads (omega arith) in
-    let h = into (entries c.args.lineage.now.row) w (omega arith) c.before-s.result own (rw (small_back w.want (omega arith)) at (sym c.ends_well.ensures ∙ c.if-ends_well.true)) in search (rules, h)
+    let h = into (entries c.args.lineage.now.row) w (omega arith) c.before-s.result own
+    (rw (small_back w.want (omega arith)) at (sym c.ends_well.ensures ∙ c.if-ends_well.true)) in search (rules, h)
 
 pub returns-else-ends_well : goal.returns-else-ends_well
 returns-else-ends_well c = let w = c.args.w in
     let own = c.before-s.ensures ∙ before_own _ _ _ _ c.args.lineage.now.lent w.entry w.reads (omega arith) in
-    let h = past (entries c.args.lineage.now.row) w (omega arith) c.before-s.result own (rw (small_back w.want (omega arith)) at (sym c.ends_well.ensures ∙ c.if-ends_well.false)) in search (rules, h)
+    let h = past (entries c.args.lineage.now.row) w (omega arith) c.before-s.result own
+    (rw (small_back w.want (omega arith)) at (sym c.ends_well.ensures ∙ c.if-ends_well.false)) in search (rules, h)
