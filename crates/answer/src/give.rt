@@ -1,4 +1,4 @@
-// What every kind gives in the end: a result, or "no such node".
+// What every question gets in the end: a result, or the fault that refuses it.
 ghost use Rattle.std.specs.Prelude.{◌≡◌, ◌≤◌};
 ghost use Rattle.walk.specs.Walk.{said};
 ghost use Rattle.question.specs.Fault.{number_of};

@@ -45,7 +45,8 @@ fn answer_to(of: &Balanced<'_>, q: Question) -> Answer
     }
 }
 
-// "Each question is three unsigned 32-bit numbers: kind, a, b. .. Each answer is code, result, entries read."
+// "Each question is three unsigned 32-bit numbers: kind, a, b. .. Each answer is code, result, entries read." The kind is a number here, as
+// C asks it, and a case once it is decoded.
 pub fn answer(of: &Balanced<'_>, kind: u32, a: u32, b: u32) -> Answer
     ensures { told result ≡ answer_of of.now.lineage.row.bytes.now of.now.lineage.row.m kind a b }
 {

@@ -9,11 +9,11 @@ ghost use Rattle.answer.specs.Told.{told};
 use crate::{Answer, Balanced, give};
 use question::Question;
 
-// Whether all boundaries of a range lie so far above its start: by 1, above it; by 0, not below it.
-fn above<const BY: i32>(least: i32) -> bool
-    ensures { result ≡ le_z BY least }
+// Whether a range's least is N or more: with 1 all its boundaries lie above its start, with 0 none lies below it.
+fn at_least<const N: i32>(least: i32) -> bool
+    ensures { result ≡ le_z N least }
 {
-    BY <= least
+    N <= least
 }
 
 // "the range's least less 1"
@@ -30,7 +30,7 @@ fn shared(of: &Balanced<'_>, a: usize, b: usize) -> Answer
     ensures { told result ≡ answer_to (its_word of.now) (Question.Nearest a b) }
 {
     let r = range::range(&of.lineage, a, b);
-    if above::<1>(r.value.least) {
+    if at_least::<1>(r.value.least) {
         return give::answered(a, r.reads);
     }
     let back = less_one(r.value.least);
@@ -57,7 +57,7 @@ fn lower(of: &Balanced<'_>, a: usize, b: usize) -> Answer
     ensures { told result ≡ answer_to (its_word of.now) (Question.Lowest a b) }
 {
     let r = range::range(&of.lineage, a, b);
-    if above::<0>(r.value.least) {
+    if at_least::<0>(r.value.least) {
         return give::answered(a, r.reads);
     }
     let by = i64::from(r.value.least);

@@ -13,7 +13,7 @@ use std::ops::ControlFlow;
 use summary::Summary;
 use walk::{Counted, Lineage, Walk, Way};
 
-// The last boundary up to `to`, and after `from`, with the amount wanted from `to`; or the amount wanted from `from`.
+// The last boundary after `from`, up to `to`, whose depth from `to` is what is wanted; or the amount wanted from `from`.
 fn scan_down(bytes: &[u8], from: usize, to: usize, want: i64) -> Result<usize, i64>
     requires { (to ≤ 8 * length bytes.now) × (to ≤ 2097152) × (nat_abs want ≤ 1152921504606846976) }
     ensures { result ≡ scan_down bytes.now from (to - from) want }

@@ -24,7 +24,8 @@ fn put(answers: &mut [u32], at: usize, a: Answer)
     fill::copy(&[code, result, a.reads], answers, at);
 }
 
-// Three numbers in, three out, each question in turn. The loop goes by places, since an answer stands where its question stood.
+// Three numbers in, three out, each question in turn, in slices of numbers as C lends them. The loop goes by places, since an answer
+// stands where its question stood.
 fn answer_all(of: &Balanced<'_>, questions: &[u32], answers: &mut [u32])
     requires { (length questions.now % 3 ≡ 0) × (length questions.now ≤ length answers.old) }
     ensures { answers.new ≡ sets answers.old 0 (answers_of of.now.lineage.row.bytes.now of.now.lineage.row.m questions.now) }

@@ -104,7 +104,8 @@ impl State {
     }
 }
 
-// "all numbers most significant first": a field's two-byte length, and a number of four bytes
+// "all numbers most significant first": a field's two-byte length, and a number of four bytes. File and place stay two: a field holds its
+// part of the file once its head is read.
 fn length_at(file: &[u8], at: usize) -> usize
     requires { at + 3 ≤ length file.now }
     ensures { (result ≡ length_at file.now at) × (result < 65536) }

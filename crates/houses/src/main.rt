@@ -126,15 +126,14 @@ fn last_line(text: &[u8]) -> &[u8] {
         .unwrap_or(text)
 }
 
-// Of a long text, how many bytes it has and its last line.
+// Of a long text, how many bytes it has and its last line. What it shares with `show` is an array and a call.
 fn show_last(out: &impl Print, what: &[u8], file: &[u8]) -> io::Result<()> {
     let mut output = [0u8; 33792];
     let Ok(k) = run::run(file, &mut output) else {
         return Ok(());
     };
     out.write_all(what)?;
-    out.print(k as u64)?;
-    out.write_all(b" bytes\n")?;
+    println!(out; "{k} bytes")?;
     out.write_all(last_line(&output[..k]))
 }
 

@@ -1,4 +1,4 @@
-// The range min-max tree of a word, in a lent slice of numbers.
+// The range min-max tree of a word, in a slice of numbers as C lends it.
 #![tactic(auto)]
 
 ghost use Rattle.std.specs.Prelude.{◌≡◌, ◌+◌, ◌*◌, ◌^◌, ◌≤◌, ◌<◌, length};

@@ -61,7 +61,8 @@ pub fn balanced(row: &Row<'_>) -> bool
     s.total == 0 && s.least >= 0
 }
 
-// The row that is lent, where it is no longer than a word may be and all its bytes are there.
+// The row that is lent, where it is no longer than a word may be and all its bytes are there. Calls take `bytes` and `m` as two, as C lends
+// them, and here they become a row.
 #[tactic(auto, unfolding(crate::specs::Judge::judged))]
 pub fn lent(bytes: &[u8], m: u32) -> Result<Row<'_>, Refusal>
     ensures code { code_of result ≡ unlent bytes.now m }

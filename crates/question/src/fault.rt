@@ -1,4 +1,4 @@
-// What a question can be at fault in: the refusals 11 to 16, by name.
+// Why a question is refused, by the numbers 11 to 16.
 ghost use Rattle.std.specs.Prelude.{◌≡◌};
 ghost use Rattle.question.specs.Fault.{number_of};
 

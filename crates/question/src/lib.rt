@@ -31,7 +31,8 @@ pub enum Question {
     Holds(usize, usize),
 }
 
-// The place of a node. `node` and `closing` stay two, as the checks are: 13 where the one is wanted, 14 where the other is.
+// The place of a node. `node` and `closing` stay two, as their definitions are: one function would be handed the bit and the fault
+// of each.
 #[tactic(auto, using(crate::proofs::Checks::node_checks))]
 fn node(row: &Row<'_>, a: u32) -> Result<usize, Fault>
     ensures { numbered number_of result ≡ unless (node (word_of row.now) a []) a }

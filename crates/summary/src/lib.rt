@@ -95,7 +95,7 @@ pub fn step(opens: bool) -> i32
     if opens { 1 } else { -1 }
 }
 
-// EMPTY by a call, whose promise says that it is the rule's; a clause may name the constant itself, as `Summary.EMPTY`.
+// EMPTY, by a call that promises the rule's four zeros.
 pub fn empty() -> Summary
     ensures { result ≡ empty_of }
 {

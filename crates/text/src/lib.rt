@@ -41,6 +41,7 @@ impl Page<'_> {
         self.byte(after);
     }
 
+    // Code, result and reads are the numbers of a batch's slice, as C is given them.
     fn line(&mut self, code: u32, res: u32, reads: u32)
         requires { self.old.at + 33 ≤ length self.old.out.now }
         ensures { Writes (line code res reads) self.old self.new }
@@ -51,7 +52,7 @@ impl Page<'_> {
     }
 }
 
-// "prints code, result and reads for each question, single spaces, one line each"
+// "prints code, result and reads for each question, single spaces, one line each": the answers are one slice of numbers, as C lends it.
 pub fn put_lines(answers: &[u32], out: &mut [u8]) -> usize
     requires { (length answers.now % 3 ≡ 0) × (11 * length answers.now ≤ length out.old) }
     ensures { Put (lines answers.now) out.old 0 result out.new }

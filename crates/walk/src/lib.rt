@@ -1,4 +1,5 @@
-// What the five walks share: their state and its steps, the reading of an entry, and the test of one.
+// What the walks share: what they go over and what they give, the state of those that look for a boundary with its steps, the reading of an
+// entry and the test of one, and the walk past its first block, whichever way it goes.
 // An entry is read, and the read counted, in one place: `read`.
 #![tactic(auto)]
 
@@ -12,6 +13,7 @@ ghost use Rattle.walk.specs.Beside.{after_of, before_of};
 
 pub use lineage::Lineage;
 use summary::Summary;
+pub use summary::step;
 pub use way::{Way, onward};
 
 mod lineage;
@@ -32,15 +34,16 @@ pub struct Walk {
     pub reads: u32,
 }
 
-// A climb ends at an entry to go down into, or at entry 1. The definitions of both walks name the two ends, Enter and Top, and go on from
-// both: a `Result` would call one of them an error.
+// A climb ends at an entry to go down into, or at entry 1. It is no `ControlFlow`, as one step of it is: the definitions of both walks name
+// these two ends, and `landed` and `landed_back` go on from each.
 #[derive(Clone, Copy)]
 pub enum Climb {
     Enter(Walk),
     Top(Walk),
 }
 
-// "Only reading an index entry counts": entry k, and one read more.
+// "Only reading an index entry counts": entry k, and one read more. The bounds of reads and of amounts wanted, here and below, keep each
+// sum in its type: a type for either would be opened at each sum.
 pub fn read(index: &[i32], k: usize, reads: u32) -> Counted<Summary>
     requires { (4 * k + 3 < length index.now) × (reads ≤ 1073741824) }
     ensures { result ≡ seen (entry_at index.now k) (reads + 1) }
@@ -51,7 +54,8 @@ pub fn read(index: &[i32], k: usize, reads: u32) -> Counted<Summary>
     }
 }
 
-// Where the rule reads no entry: nothing was seen.
+// Where the rule reads no entry: nothing was seen. The empty summary stands for it, and no `Option`, since joining it and adding its total
+// change nothing.
 #[tactic(auto, unfolding(summary::specs::Join::empty_of))]
 fn unread(reads: u32) -> Counted<Summary>
     ensures { result ≡ seen empty_of reads }
@@ -97,9 +101,6 @@ pub fn holds(s: Summary, want: i64) -> bool
     }
     i64::from(s.least) <= want && want <= i64::from(s.greatest)
 }
-
-// What one bit adds to the depth.
-pub use summary::step;
 
 impl Walk {
     // To entry k, with the same amount wanted.

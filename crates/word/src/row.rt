@@ -1,5 +1,5 @@
-// A row as it is lent: its bytes, and how many bits of them are the row's. How long a word may be stays a clause of those who ask it: a
-// question is decoded over longer rows too.
+// A row as it is lent: its bytes, and how many bits of them are the row's. Whoever needs a word's longest length asks it in a clause,
+// since a question is decoded over longer rows too.
 ghost use Rattle.std.specs.Prelude.{◌*◌, ◌≤◌, length};
 
 #[derive(Clone, Copy)]

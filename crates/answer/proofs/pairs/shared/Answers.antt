@@ -16,13 +16,13 @@ range-r-requires c = (c.requires.2, omega (arith, node_in (row c.args.of.now) c.
 pub answered-requires : goal.answered-requires
 answered-requires c = omega (arith, node_in (row c.args.of.now) c.requires.0)
 
-pub returns-then-above : goal.returns-then-above
-returns-then-above c =
+pub returns-then-at_least : goal.returns-then-at_least
+returns-then-at_least c =
     let r = row c.args.of.now in
     let below = node_in r c.requires.1 in
     let t = range_near r _ _ c.requires.2 (omega arith) c.range-r.ensures in
     c.answered.ensures ∙ nearest_here r c.requires.2 (omega arith) c.range-r.ensures c.requires.0 c.requires.1
-    (decided (pos 1) t.least_back c.above.ensures c.if-above.true)
+    (decided (pos 1) t.least_back c.at_least.ensures c.if-at_least.true)
 
 pub backward-requires : goal.backward-requires
 backward-requires c =
@@ -47,5 +47,5 @@ returns c =
     let x = c.args.of.now.lineage.row in
     let by = through t.less_small (c.less_one-back.ensures ∙ ap (λ y. y -ℤ pos 1) t.least_back) in
     c.reached.ensures ∙ nearest_told r c.requires.2 (omega arith) c.range-r.ensures c.requires.0 c.requires.1
-    (decided (pos 1) t.least_back c.above.ensures c.if-above.false)
+    (decided (pos 1) t.least_back c.at_least.ensures c.if-at_least.false)
     (c.backward.ensures ∙ ap (backward (height x.m) (word_of x) c.args.a) by)
