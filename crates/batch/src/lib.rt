@@ -12,7 +12,8 @@ use answer::{Answer, Balanced};
 use judge::Refusal;
 use walk::Lineage;
 
-// "Each answer is code, result, entries read.": to C it is three numbers of one slice.
+// "Each answer is code, result, entries read.": to C it is three numbers of one slice. Three stores: `fill::copy` was tried, and a question
+// without a walk took half as long again.
 fn put(answers: &mut [u32], at: usize, a: Answer)
     requires { at + 3 ≤ length answers.old }
     ensures { answers.new ≡ sets answers.old at (three (told a)) }
@@ -21,7 +22,9 @@ fn put(answers: &mut [u32], at: usize, a: Answer)
         Ok(result) => (0, result),
         Err(fault) => (u32::from(fault), 0),
     };
-    fill::copy(&[code, result, a.reads], answers, at);
+    answers[at] = code;
+    answers[at + 1] = result;
+    answers[at + 2] = a.reads;
 }
 
 // Three numbers in, three out, each question in turn, in slices of numbers as C lends them. The loop goes by places, since an answer
