@@ -51,7 +51,8 @@ pub(crate) fn nearest(of: &Balanced<'_>, a: usize, b: usize) -> Answer
     shared(of, b, a)
 }
 
-// Kind 13 of two different boundaries. Where no later boundary is lower, a is the answer; else "13 forward by that least".
+// Kind 13 of two different boundaries. Where no later boundary is lower, a is the answer; else "13 forward by that least". `shared` and
+// `lower` stay two, as the kinds are: another walk, by another amount.
 fn lower(of: &Balanced<'_>, a: usize, b: usize) -> Answer
     requires { (a < b) × (b ≤ of.now.lineage.row.m) }
     ensures { told result ≡ answer_to (its_word of.now) (Question.Lowest a b) }

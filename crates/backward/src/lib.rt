@@ -91,7 +91,8 @@ impl Way for Back {
     }
 }
 
-// The last boundary before `p` whose depth is that of `p` and `want` more, and how many entries were read.
+// The last boundary before `p` whose depth is that of `p` and `want` more, and how many entries were read. The first block is each way's
+// own, as its scan is.
 pub fn backward(lineage: &Lineage<'_>, p: usize, want: i64) -> Counted<Option<usize>>
     requires { (p ≤ lineage.now.row.m) × (nat_abs want ≤ 8589934592) }
     ensures { said result ≡ backward (height lineage.now.row.m) (word_of lineage.now.row) p want }

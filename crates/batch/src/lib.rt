@@ -39,7 +39,8 @@ fn answer_all(of: &Balanced<'_>, questions: &[u32], answers: &mut [u32])
     }
 }
 
-// The lineage that is lent, where no refusal holds; or else the first that does.
+// The lineage that is lent, where no refusal holds; or else the first that does. Build's tests are among these, but 4 and 5 stand between
+// them: the order is document 01's.
 #[tactic(auto, unfolding(crate::specs::Batch::refusal))]
 fn accepted<'a>(
     bytes: &'a [u8],

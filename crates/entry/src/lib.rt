@@ -22,8 +22,8 @@ fn block(row: &Row<'_>, b: usize) -> Summary
     table::stretch(row.bytes, from, row.m.min(from + 256))
 }
 
-// Entry k of the word, where the entries past it are there already. `Known` says again that the bytes are there: it is a definition of its
-// own, and a row says it to all.
+// Entry k of the word, where the entries past it are there already. `Known` and `Lent` say again that the bytes are there: they are
+// definitions of their own, and a row says it to all.
 pub fn own(row: &Row<'_>, l: usize, index: &[i32], k: usize) -> Summary
     requires { Known row.now.bytes.now row.now.m l index.now (k + 1) }
     ensures { result ≡ entry (height row.now.m) (word_of row.now) k }

@@ -83,7 +83,8 @@ impl Way for Ahead {
     }
 }
 
-// "Scan to the end of block p/256. Failing that, let t be the amount still wanted from there. Climb from that leaf"
+// "Scan to the end of block p/256. Failing that, let t be the amount still wanted from there. Climb from that leaf": the first block is
+// each way's own, as its scan is.
 pub fn forward(lineage: &Lineage<'_>, p: usize, want: i64) -> Counted<Option<usize>>
     requires { (p < lineage.now.row.m) × (nat_abs want ≤ 8589934592) }
     ensures { said result ≡ forward (height lineage.now.row.m) (word_of lineage.now.row) p want }

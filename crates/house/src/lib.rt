@@ -157,6 +157,7 @@ fn wrong_length(tag: Tag, len: usize) -> bool
     }
 }
 
+// The last tests of a field stay three: each has a limit of its own, and a field of its own.
 fn size_field<'a>(m: u32) -> Result<Field<'a>, Fault>
     ensures { told result ≡ size_field m }
 {

@@ -52,8 +52,8 @@ fn print(file: &[u8], out: &mut [u8]) -> usize
     }
 }
 
-// The length of the text, which is written over the front of `output`. Fewer than 33,792 bytes lent, which is 1,024 lines of
-// three numbers of ten digits with a byte after each: refused, and nothing is written.
+// The length of the text, which is written over the front of `output`: nothing is put on the heap. Fewer than 33,792 bytes lent, which is
+// 1,024 lines of three numbers of ten digits with a byte after each: refused, and nothing is written.
 pub fn run(input: &[u8], output: &mut [u8]) -> Result<usize, NoRoom>
     ensures { Ran input.now output.old (ran_as result) output.new }
 {

@@ -95,7 +95,7 @@ pub fn step(opens: bool) -> i32
     if opens { 1 } else { -1 }
 }
 
-// EMPTY, by a call that promises the rule's four zeros.
+// EMPTY, by a call that promises the rule's four zeros, for whoever calls it from outside.
 pub fn empty() -> Summary
     ensures { result ≡ empty_of }
 {

@@ -43,7 +43,7 @@ pub enum Climb {
 }
 
 // "Only reading an index entry counts": entry k, and one read more. The bounds of reads and of amounts wanted, here and below, keep each
-// sum in its type: a type for either would be opened at each sum.
+// sum in its type: a type for either would be opened at each sum. Index, entry and reads stay three for the same reason.
 pub fn read(index: &[i32], k: usize, reads: u32) -> Counted<Summary>
     requires { (4 * k + 3 < length index.now) × (reads ≤ 1073741824) }
     ensures { result ≡ seen (entry_at index.now k) (reads + 1) }
