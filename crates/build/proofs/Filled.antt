@@ -42,17 +42,26 @@ module _ (bytes : List ℕ) (m l : ℕ) (held : List ℤ) where
             let z : k + (j - k) ≡ j = omega arith in
             rw f.is (rw z at (laid_reads held (2 * l - k) (entry (height m) (word bytes m)) k (j - k) (omega (arith, f.inside, f.leaves, numbers_are m, f.lent.index_lent)) (omega arith)))
 
-  pub fill_next : (now after : List ℤ) (k : ℕ) (s : Summary) → Filled bytes m l held now k → 0 < k → s ≡ entry (height m) (word bytes m) (k - 1) → after ≡ sets now (4 * (k - 1)) (four s) → Filled bytes m l held after (k - 1)
+  pub fill_next : (now after : List ℤ) (k : ℕ) (s : Summary) → Filled bytes m l held now k → 0 < k
+      → s ≡ entry (height m) (word bytes m) (k - 1) → after ≡ sets now (4 * (k - 1)) (four s) → Filled bytes m l held after (k - 1)
   fill_next now after k s f h e z =
       let y : suc (k - 1) ≡ k = omega arith in
       let x : suc (2 * l - k) ≡ 2 * l - (k - 1) = omega (arith, f.inside) in
       let n : sets (sets held (4 * k) (index_from (2 * l - k) (entry (height m) (word bytes m)) k)) (4 * (k - 1)) (four (entry (height m) (word bytes m) (k - 1)))
-      ≡ sets held (4 * (k - 1)) (index_from (2 * l - (k - 1)) (entry (height m) (word bytes m)) (k - 1)) = rw (y, x) at (laid_next held (2 * l - k) (entry (height m) (word bytes m)) (k - 1)) in
-      record { lent = f.lent; leaves = f.leaves; inside = omega (arith, f.inside); is = z ∙ ap₂ (λ r t. sets r (4 * (k - 1)) (four t)) f.is e ∙ n }
+      ≡ sets held (4 * (k - 1)) (index_from (2 * l - (k - 1)) (entry (height m) (word bytes m)) (k - 1)) =
+      rw (y, x) at (laid_next held (2 * l - k) (entry (height m) (word bytes m)) (k - 1)) in
+      record {
+        lent =
+            f.lent;
+        leaves = f.leaves;
+        inside = omega (arith, f.inside);
+        is = z ∙ ap₂ (λ r t. sets r (4 * (k - 1)) (four t)) f.is e ∙ n;
+      }
 
   pub fill_all : (now : List ℤ) (k : ℕ) → Filled bytes m l held now k → k ≤ 0 → now ≡ sets held 0 (index (height m) (word bytes m))
   unfolding index
   fill_all now k f h =
       let z : k ≡ 0 = omega arith in
       f.is ∙ ap (λ x. sets held (4 * x) (index_from (2 * l - x) (entry (height m) (word bytes m)) x)) z
-      ∙ ap (λ n. sets held 0 (index_from n (entry (height m) (word bytes m)) 0)) (let y : 2 * l - 0 ≡ 2 * 2 ^ height m = omega (arith, f.leaves) in y)
+      ∙ ap (λ n. sets held 0 (index_from n (entry (height m) (word bytes m)) 0)) (let y : 2 * l - 0 ≡ 2 * 2 ^ height m =
+      omega (arith, f.leaves) in y)

@@ -27,16 +27,19 @@ use Rattle.build.specs.Build.{refusal, built_index, Built}
 use Rattle.build.proofs.Refusal.{accepted, ends_refused}
 
 -- no second outcome fits
-pub outcome_settled : (bytes : List ℕ) (m : ℕ) (held : List ℤ) (r r' : Outcome) (left left' : List ℤ) → Built bytes m held r left → Built bytes m held r' left' → (r ≡ r') × (left ≡ left')
+pub outcome_settled : (bytes : List ℕ) (m : ℕ) (held : List ℤ) (r r' : Outcome) (left left' : List ℤ) → Built bytes m held r left
+    → Built bytes m held r' left' → (r ≡ r') × (left ≡ left')
 outcome_settled bytes m held r r' left left' p q = (p.outcome_is ∙ sym q.outcome_is, p.index_is ∙ sym q.index_is)
 
 -- and no second result
-pub settled : (bytes : List ℕ) (m : ℕ) (held : List ℤ) (r r' : Result ℕ Refusal) (left left' : List ℤ) → Built bytes m held (outcome r) left → Built bytes m held (outcome r') left'
+pub settled : (bytes : List ℕ) (m : ℕ) (held : List ℤ) (r r' : Result ℕ Refusal) (left left' : List ℤ)
+    → Built bytes m held (outcome r) left → Built bytes m held (outcome r') left'
     → (r ≡ r') × (left ≡ left')
 settled bytes m held r r' left left' p q = let s = outcome_settled bytes m held (outcome r) (outcome r') left left' p q in (outcome_apart r r' s.0, s.1)
 
 -- "Refusals 1 to 7 return 0 beside the code and write nothing."
-pub refused_whole : (bytes : List ℕ) (m : ℕ) (held : List ℤ) (r : Outcome) (left : List ℤ) → Built bytes m held r left → (refusal bytes m (length held) ≡ 0 → ⊥)
+pub refused_whole : (bytes : List ℕ) (m : ℕ) (held : List ℤ) (r : Outcome) (left : List ℤ) → Built bytes m held r left
+    → (refusal bytes m (length held) ≡ 0 → ⊥)
     → (r ≡ record { code = refusal bytes m (length held); value = 0 }) × (left ≡ held)
 refused_whole bytes m held r left p some_refusal =
     outcome_settled bytes m held r (record { code = refusal bytes m (length held); value = 0 }) left held p (ends_refused bytes m held (refusal bytes m (length held)) refl some_refusal)
@@ -46,7 +49,8 @@ module _ (bytes : List ℕ) (m : ℕ) (held : List ℤ) (ok : refusal bytes m (l
   pub built_is : built_index bytes m held ≡ index (height m) (word bytes m) ++ drop (numbers_of m) held
   unfolding built_index
   built_is =
-      let n : 0 + length (index (height m) (word bytes m)) ≡ numbers_of m = omega (arith, index_long (height m) (word bytes m), numbers_are m) in
+      let n : 0 + length (index (height m) (word bytes m)) ≡ numbers_of m =
+      omega (arith, index_long (height m) (word bytes m), numbers_are m) in
       rw ok (sets-eq (index (height m) (word bytes m)) held 0 (omega (arith, (accepted bytes m held ok).0.index_lent)) ∙ ap (λ n. index (height m) (word bytes m) ++ drop n held) n)
 
   pub built_long : length (built_index bytes m held) ≡ length held

@@ -31,9 +31,12 @@ module _ (bytes : List ℕ) (m l : ℕ) (idx : List ℤ) (k : ℕ) (known : Know
 -- what is worked out for entry k, by where it stands
 module _ (bytes : List ℕ) (m l : ℕ) (idx : List ℤ) (k : ℕ) (known : Known bytes m l idx (k + 1)) where
   pub own_leaf : (r : Summary) → l ≤ k → r ≡ summary_of (block (word bytes m) (k - l)) → r ≡ entry (height m) (word bytes m) k
-  own_leaf r h e = e ∙ ap (λ x. summary_of (block (word bytes m) (k - x))) known.leaves ∙ sym (entry_leaf (height m) k (word bytes m) (omega (arith, known.leaves)))
+  own_leaf r h e =
+      e ∙ ap (λ x. summary_of (block (word bytes m) (k - x))) known.leaves
+      ∙ sym (entry_leaf (height m) k (word bytes m) (omega (arith, known.leaves)))
 
-  pub own_joins : (x y r : Summary) → (k ≡ 0 → ⊥) → k < l → x ≡ entry_at idx (2 * k) → y ≡ entry_at idx (2 * k + 1) → r ≡ join_of x y → r ≡ entry (height m) (word bytes m) k
+  pub own_joins : (x y r : Summary) → (k ≡ 0 → ⊥) → k < l → x ≡ entry_at idx (2 * k) → y ≡ entry_at idx (2 * k + 1) → r ≡ join_of x y
+      → r ≡ entry (height m) (word bytes m) k
   own_joins x y r h u ex ey e =
       e ∙ ap₂ join_of (ex ∙ known.reads (2 * k) (omega arith) (omega arith)) (ey ∙ known.reads (2 * k + 1) (omega arith) (omega arith))
       ∙ sym (entry_joins (height m) k (word bytes m) (omega arith) (omega (arith, known.leaves)))

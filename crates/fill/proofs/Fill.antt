@@ -12,7 +12,9 @@ module _ {A : Type 0} where
   -- in two goes
   pub sets_append : (l : List A) (i : ℕ) (xs ys : List A) → sets l i (xs ++ ys) ≡ sets (sets l i xs) (i + length xs) ys
   sets_append l i [] ys = ap (λ n. sets l n ys) (let e : i ≡ i + 0 = omega arith in e)
-  sets_append l i (x ∷ xs) ys = sets_append (set l i x) (suc i) xs ys ∙ ap (λ n. sets (sets (set l i x) (suc i) xs) n ys) (let e : suc i + length xs ≡ i + suc (length xs) = omega arith in e)
+  sets_append l i (x ∷ xs) ys =
+      sets_append (set l i x) (suc i) xs ys
+      ∙ ap (λ n. sets (sets (set l i x) (suc i) xs) n ys) (let e : suc i + length xs ≡ i + suc (length xs) = omega arith in e)
 
   -- a list written over the k elements from place i on
   pub put_sets : (l vs : List A) (i k : ℕ) → k ≡ length vs → i + k ≤ length l → put_mid i k l vs ≡ sets l i vs
@@ -23,7 +25,8 @@ module _ {A : Type 0} where
   sets_front l vs n e h = ap (take n) (sets-eq vs l 0 (omega arith)) ∙ take_at vs (drop (0 + length vs) l) n (sym e)
 
   -- a list taken three elements at a time
-  pub drop_three : (l : List A) (i : ℕ) (d : A) → i + 3 ≤ length l → drop i l ≡ get_or l i d ∷ (get_or l (i + 1) d ∷ (get_or l (i + 2) d ∷ drop (i + 3) l))
+  pub drop_three : (l : List A) (i : ℕ) (d : A) → i + 3 ≤ length l
+      → drop i l ≡ get_or l i d ∷ (get_or l (i + 1) d ∷ (get_or l (i + 2) d ∷ drop (i + 3) l))
   drop_three l i d h =
       next i (i + 1) (omega arith) (omega arith)
       ∙ ap (get_or l i d ∷◌) (next (i + 1) (i + 2) (omega arith) (omega arith)

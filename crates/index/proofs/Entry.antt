@@ -71,7 +71,8 @@ entry_bounded m h (suc k) w l u =
     rw (entry_is h p.f p.g (suc k) p.a w p.level p.start)
     (summary_bounded m (take (256 * 2 ^ p.g) (drop (256 * p.a) w)) (omega (arith, length-take (256 * 2 ^ p.g) (drop (256 * p.a) w), length-drop (256 * p.a) w)))
 
-numbers_small : (n : ℕ) (e : ℕ → Summary) (k m : ℕ) → ((j : ℕ) → k ≤ j → j < k + n → Bounded m (e j)) → (i : ℕ) → nat_abs (get_or (index_from n e k) i (pos 0)) ≤ m
+numbers_small : (n : ℕ) (e : ℕ → Summary) (k m : ℕ) → ((j : ℕ) → k ≤ j → j < k + n → Bounded m (e j)) → (i : ℕ)
+    → nat_abs (get_or (index_from n e k) i (pos 0)) ≤ m
 unfolding index_from
 numbers_small zero e k m b i = omega arith
 numbers_small (suc n) e k m b zero = (b k (omega arith) (omega arith)).total
@@ -84,5 +85,6 @@ numbers_small (suc n) e k m b (suc (suc (suc (suc i)))) = numbers_small n e (suc
 pub index_fits : (h : ℕ) (w : List Bool) (i : ℕ) → length w ≤ 2097152 → SFits w32 (get_or (index h w) i (pos 0))
 unfolding index
 index_fits h w i l =
-    let s : nat_abs (get_or (index_from (2 * 2 ^ h) (entry h w) 0) i (pos 0)) ≤ 2097152 = numbers_small (2 * 2 ^ h) (entry h w) 0 2097152 (λ j a b. entry_bounded 2097152 h j w l (omega arith)) i in
+    let s : nat_abs (get_or (index_from (2 * 2 ^ h) (entry h w) 0) i (pos 0)) ≤ 2097152 =
+    numbers_small (2 * 2 ^ h) (entry h w) 0 2097152 (λ j a b. entry_bounded 2097152 h j w l (omega arith)) i in
     omega (zarith, abs_law (get_or (index_from (2 * 2 ^ h) (entry h w) 0) i (pos 0)))

@@ -36,7 +36,8 @@ no_more (suc n) h b H l k = by_test (leb b (2 ^ h))
 -- "L is the least power of two that is at least 1 and at least B": its leaves are enough for the blocks, and no lower height has enough
 pub height_enough : (m : ℕ) → blocks m ≤ 2 ^ height m
 unfolding height
-height_enough m = reached (blocks m) 0 (blocks m) (let e : 0 + blocks m ≡ blocks m = omega arith in rw e (omega (arith, more_than (blocks m))))
+height_enough m =
+    reached (blocks m) 0 (blocks m) (let e : 0 + blocks m ≡ blocks m = omega arith in rw e (omega (arith, more_than (blocks m))))
 
 pub height_least : (m g : ℕ) → blocks m ≤ 2 ^ g → height m ≤ g
 unfolding height

@@ -1,12 +1,12 @@
 -- Where an entry stands in the index, and the stretch that it sums up. Assumes nothing.
 use mathlib.Core.Path.{◌≡◌, refl, sym, ap, subst, ◌∙◌}
-use mathlib.Core.Bool.{Bool, true, false, not}
+use mathlib.Core.Bool.{Bool, true, false}
 use mathlib.Core.List.{List, ◌++◌}
 use Prim.Native.Nat.{ℕ, zero, suc, ◌+◌, ◌-◌, ◌*◌, ◌/◌, ◌%◌, ◌^◌, ◌≤◌, ◌<◌}
 use native.Mathlib.Omega.{arith}
 use native.Mathlib.Nat.{two-pow-succ, one-le-pow, mul-le-mul_right, mul-le-mul_left}
 use lib.Pow.{pow-add}
-use lib.Dec.{T, eqb, eqb→eq, leb, le→leb, leb→le, nleb→lt}
+use lib.Dec.{T, eqb, eqb→eq, leb, le→leb, leb→le}
 use lib.ListN.{take, drop}
 use lib.Seq.{take-add, drop-drop}
 use Rattle.summary.specs.declared.Summary.{Summary}
@@ -38,7 +38,11 @@ even_no k e = omega (arith, odd)
 
 module _ {h f g k : ℕ} where
   pub level_up : Level h (suc f) g k → Level h f (suc g) (k / 2)
-  level_up l = record { levels = omega (arith, l.levels); low = omega (arith, two-pow-succ f, l.low); high = omega (arith, two-pow-succ (suc f), l.high) }
+  level_up l = record {
+    levels = omega (arith, l.levels);
+    low = omega (arith, two-pow-succ f, l.low);
+    high = omega (arith, two-pow-succ (suc f), l.high);
+  }
 
   pub level_next : Level h (suc f) g k → k % 2 ≡ 0 → Level h (suc f) g (k + 1)
   level_next l e = record { levels = l.levels; low = omega (arith, l.low); high = omega (arith, two-pow-succ (suc f), l.high) }
@@ -47,10 +51,18 @@ module _ {h f g k : ℕ} where
   level_before l e = record { levels = l.levels; low = omega (arith, two-pow-succ f, l.low); high = omega (arith, l.high) }
 
   pub level_left : Level h f (suc g) k → Level h (suc f) g (2 * k)
-  level_left l = record { levels = omega (arith, l.levels); low = omega (arith, two-pow-succ f, l.low); high = omega (arith, two-pow-succ (suc f), l.high) }
+  level_left l = record {
+    levels = omega (arith, l.levels);
+    low = omega (arith, two-pow-succ f, l.low);
+    high = omega (arith, two-pow-succ (suc f), l.high);
+  }
 
   pub level_right : Level h f (suc g) k → Level h (suc f) g (2 * k + 1)
-  level_right l = record { levels = omega (arith, l.levels); low = omega (arith, two-pow-succ f, l.low); high = omega (arith, two-pow-succ (suc f), l.high) }
+  level_right l = record {
+    levels = omega (arith, l.levels);
+    low = omega (arith, two-pow-succ f, l.low);
+    high = omega (arith, two-pow-succ (suc f), l.high);
+  }
 
   pub level_low : Level h f g k → 2 ^ h ≤ k * 2 ^ g
   level_low l = omega (arith, mul-le-mul_right (2 ^ g) l.low, pow-add 2 f g, ap (λ n. 2 ^ n) l.levels)
@@ -59,7 +71,8 @@ module _ {h f g k : ℕ} where
   level_high l = omega (arith, mul-le-mul_right (2 ^ g) l.high, rw (two-pow-succ f) at (mul-le-mul_right (2 ^ g) l.high), pow-add 2 f g, ap (λ n. 2 ^ n) l.levels)
 
 -- a stretch of 2 ^ suc g blocks is two of 2 ^ g
-pub halves : (g a : ℕ) (w : List Bool) → take (256 * 2 ^ suc g) (drop (256 * a) w) ≡ take (256 * 2 ^ g) (drop (256 * a) w) ++ take (256 * 2 ^ g) (drop (256 * (a + 2 ^ g)) w)
+pub halves : (g a : ℕ) (w : List Bool)
+    → take (256 * 2 ^ suc g) (drop (256 * a) w) ≡ take (256 * 2 ^ g) (drop (256 * a) w) ++ take (256 * 2 ^ g) (drop (256 * (a + 2 ^ g)) w)
 halves g a w =
     let e : 256 * 2 ^ suc g ≡ 256 * 2 ^ g + 256 * 2 ^ g = omega (arith, two-pow-succ g) in
     let d : 256 * (a + 2 ^ g) ≡ 256 * a + 256 * 2 ^ g = omega arith in
@@ -95,10 +108,8 @@ entry_by_lem (suc g) (suc n) h f k a w o l e = inner n (2 ^ h) k w (below_leaves
     (entry_by_lem g n h (suc f) (2 * k) a w (omega arith) (level_left l) (omega (arith, e, twice k g)))
     (entry_by_lem g n h (suc f) (2 * k + 1) (a + 2 ^ g) w (omega arith) (level_right l) (omega (arith, e, twice k g)))
 
-pub entry_is : (h f g k a : ℕ) (w : List Bool) → Level h f g k → 2 ^ h + a ≡ k * 2 ^ g → entry h w k ≡ summary_of (take (256 * 2 ^ g) (drop (256 * a) w))
+pub entry_is : (h f g k a : ℕ) (w : List Bool) → Level h f g k → 2 ^ h + a ≡ k * 2 ^ g
+    → entry h w k ≡ summary_of (take (256 * 2 ^ g) (drop (256 * a) w))
 unfolding entry
 entry_is h f g zero a w l e = absurd (omega (arith, l.low, one-le-pow f 2 (omega arith)))
 entry_is h f g (suc k) a w l e = entry_by_lem g h h f (suc k) a w (omega (arith, l.levels)) l e
-
-pub leb_no : (l k : ℕ) → leb l k ≡ false → k < l
-leb_no l k e = nleb→lt l k (subst (λ (c : Bool). T (not c)) (sym e) tt)

@@ -7,7 +7,12 @@ use Rattle.index.specs.Shape.{entry, index, numbers_of}
 
 -- "Entry k takes four signed 32-bit numbers from place 4k."
 abbrev pub entry_at : List ℤ → ℕ → Summary
-entry_at idx k = record { total = get_or idx (4 * k) (pos 0); least = get_or idx (4 * k + 1) (pos 0); greatest = get_or idx (4 * k + 2) (pos 0); count = get_or idx (4 * k + 3) (pos 0) }
+entry_at idx k = record {
+  total = get_or idx (4 * k) (pos 0);
+  least = get_or idx (4 * k + 1) (pos 0);
+  greatest = get_or idx (4 * k + 2) (pos 0);
+  count = get_or idx (4 * k + 3) (pos 0);
+}
 
 -- the numbers lent are the index, of height h, of the word: each entry read is the word's own
 pub record Indexed (h : ℕ) (w : List Bool) (idx : List ℤ) : Type 0 where

@@ -6,6 +6,8 @@ use Rattle.judge.specs.declared.refusal.Refusal.TheVariants.{TooLong, TooFewByte
 use Rattle.judge.specs.declared.refusal.Refusal.TheVariants.{TooLittleRoom, Unbalanced, Differs}
 use Rattle.judge.specs.declared.Outcome.{Outcome}
 
+-- 1, "m > 2,097,152"; 2, "fewer than ceil(m/8) bytes lent"; 3, "fewer than 8L index numbers lent"; 4, "question slice not a multiple of
+-- three long"; 5, "answer slice shorter than the question slice"; 6, "word not balanced"; 7, "one of the 8L index numbers differs"
 abbrev pub number_of : Refusal → ℕ
 number_of TooLong = 1
 number_of TooFewBytes = 2

@@ -3,7 +3,8 @@ use Rattle.std.specs.Prelude.{ℕ}
 use Rattle.question.specs.declared.fault.Fault.{Fault}
 use Rattle.question.specs.declared.fault.Fault.TheVariants.{UnknownKind, NoPlace, NotOpening, NotClosing, Reversed, NoNode}
 
--- "A question checks 11 to 16 in order"
+-- "11: kind not 1 to 14"; "12: place a or b not below m", "for kind 13, a boundary above m"; "13: place isn't an opening (all kinds of node)";
+-- "14: place isn't a closing (kind 5)"; "15: kind 13 with a > b"; "16: no such node"
 abbrev pub number_of : Fault → ℕ
 number_of UnknownKind = 11
 number_of NoPlace = 12

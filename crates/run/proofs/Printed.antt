@@ -25,7 +25,8 @@ abbrev numbers : List ℕ
 numbers = replicate 3072 0
 
 module _ (file : List ℕ) (word' numbers' : List ℕ) where
-  pub ends_refused : (r : Result House Fault) → Read file word numbers r word' numbers' → (out : List ℕ) (e : ℕ) (left : List ℕ) (fault : Fault) → r ≡ Err fault
+  pub ends_refused : (r : Result House Fault) → Read file word numbers r word' numbers'
+      → (out : List ℕ) (e : ℕ) (left : List ℕ) (fault : Fault) → r ≡ Err fault
       → Put (refusal (number_of fault)) out 0 e left → Put (output file) out 0 e left
   unfolding output
   ends_refused r read out e left fault is p = rw (← read.house_is, is) p
@@ -58,7 +59,8 @@ module _ (file : List ℕ) (word' numbers' : List ℕ) where
         let n = length-take-le (3 * h.asked) numbers' few_numbers in
         record { small = all.small; enough = omega (arith, all.exact); threes = omega arith; few = omega (arith, all.few); room = room }
 
-    pub ends_printed : (out : List ℕ) (e : ℕ) (left : List ℕ) → Put (answered (take h.bytes word') h.m (take (3 * h.asked) numbers')) out 0 e left → Put (output file) out 0 e left
+    pub ends_printed : (out : List ℕ) (e : ℕ) (left : List ℕ)
+        → Put (answered (take h.bytes word') h.m (take (3 * h.asked) numbers')) out 0 e left → Put (output file) out 0 e left
     unfolding output
     ends_printed out e left p =
         let b : take h.bytes word' ≡ (read_of file).bytes = ap (take h.bytes) read.word_is ∙ sets_front word (read_of file).bytes h.bytes all.bytes_count (omega (arith, all.bytes_count, all.exact, all.small, word_long)) in

@@ -26,7 +26,8 @@ use Rattle.text.proofs.Lines.{lines_few, refusal_few}
 use Rattle.run.specs.Output.{refused, printed_as, output, Ran}
 
 -- no second outcome fits
-pub outcome_settled : (file held : List ℕ) (r r' : Outcome) (left left' : List ℕ) → Ran file held r left → Ran file held r' left' → (r ≡ r') × (left ≡ left')
+pub outcome_settled : (file held : List ℕ) (r r' : Outcome) (left left' : List ℕ) → Ran file held r left → Ran file held r' left'
+    → (r ≡ r') × (left ≡ left')
 outcome_settled file held r r' left left' p q = (p.outcome_is ∙ sym q.outcome_is, p.output_is ∙ sym q.output_is)
 
 -- no two results are told alike
@@ -37,14 +38,16 @@ ran_apart (Err x) (Ok k) e = let z : ◌≡◌ {A = ℕ} 36 0 = ap (λ (o : Outc
 ran_apart (Err x) (Err y) e = refl
 
 -- and no second result
-pub settled : (file held : List ℕ) (r r' : Result ℕ NoRoom) (left left' : List ℕ) → Ran file held (ran_as r) left → Ran file held (ran_as r') left' → (r ≡ r') × (left ≡ left')
+pub settled : (file held : List ℕ) (r r' : Result ℕ NoRoom) (left left' : List ℕ) → Ran file held (ran_as r) left
+    → Ran file held (ran_as r') left' → (r ≡ r') × (left ≡ left')
 settled file held r r' left left' p q = let s = outcome_settled file held (ran_as r) (ran_as r') left left' p q in (ran_apart r r' s.0, s.1)
 
 -- the two ways it ends
 pub ends_short : (file held : List ℕ) → length held < 33792 → Ran file held (record { code = 36; value = 0 }) held
 ends_short file held h = record { outcome_is = rw (lt-ltb (length held) 33792 h); output_is = rw (lt-ltb (length held) 33792 h) }
 
-pub ends_run : (file held : List ℕ) (n : ℕ) (left : List ℕ) → 33792 ≤ length held → Put (output file) held 0 n left → Ran file held (record { code = 0; value = n }) left
+pub ends_run : (file held : List ℕ) (n : ℕ) (left : List ℕ) → 33792 ≤ length held → Put (output file) held 0 n left
+    → Ran file held (record { code = 0; value = n }) left
 ends_run file held n left h p =
     let e : n ≡ length (output file) = omega (arith, p.end_is) in
     record { outcome_is = rw (le-ltb (length held) 33792 h) (ap (λ k. record { code = 0; value = k }) e); output_is = rw (le-ltb (length held) 33792 h) p.left_is }
@@ -54,7 +57,8 @@ either : (t : Bool) (x y : List ℕ) (n : ℕ) → (t ≡ true → length x ≤ 
 either true x y n f g = f refl
 either false x y n f g = g refl
 
-printed_few : (file : List ℕ) (r : Result House ℕ) → (read_of file).house ≡ r → length (printed_as (read_of file).bytes (read_of file).numbers r) ≤ 33792
+printed_few : (file : List ℕ) (r : Result House ℕ) → (read_of file).house ≡ r
+    → length (printed_as (read_of file).bytes (read_of file).numbers r) ≤ 33792
 printed_few file (Err n) e = omega (arith, refusal_few n)
 printed_few file (Ok h) e =
     let g = read_of file in

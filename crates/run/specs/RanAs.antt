@@ -1,4 +1,4 @@
--- What `run` gives back, as code and number: "a call that names no other number gives 0 beside it".
+-- What `run` gives back, as code and number: 0 with the text's length, or 36, of too little room, with 0 beside it.
 use Rattle.std.specs.Prelude.{ℕ, Result, Ok, Err}
 use Rattle.judge.specs.declared.Outcome.{Outcome}
 use Rattle.run.specs.declared.no_room.NoRoom.{NoRoom}

@@ -37,7 +37,12 @@ module _ (bytes : List ℕ) (m l : ℕ) (idx : List ℤ) where
 
   module _ (k : ℕ) (x s : Summary) (known : Known bytes m l idx k) (more : 0 < k) (is : s ≡ entry (height m) (word bytes m) (k - 1)) (read : x ≡ entry_at idx (k - 1)) where
     pub same_next : not (alike x s) ≡ false → Known bytes m l idx (k - 1)
-    same_next e = record { lent = known.lent; leaves = known.leaves; inside = omega (arith, known.inside); reads = λ j a b. by j a b (dec_le k j) }
+    same_next e = record {
+      lent = known.lent;
+      leaves = known.leaves;
+      inside = omega (arith, known.inside);
+      reads = λ j a b. by j a b (dec_le k j);
+    }
       where
         by : (j : ℕ) → k - 1 ≤ j → j < 2 * l → Dec (k ≤ j) → entry_at idx j ≡ entry (height m) (word bytes m) j
         by j a b (yes z) = known.reads j z b

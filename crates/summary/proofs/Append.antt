@@ -35,7 +35,8 @@ many_shift s m (x ∷ l) = rw (eq_shift s x m, many_shift s m l)
 many_below : (m x : ℤ) (l : List ℤ) → m <ℤ least_of (x ∷ l) → how_many m (x ∷ l) ≡ 0
 unfolding how_many least_of
 many_below m x [] h = simp (→neq_z x m (omega zarith))
-many_below m x (y ∷ l) h = rw (→neq_z x m (omega (zarith, min_law x (least_of (y ∷ l)))), many_below m y l (omega (zarith, min_law x (least_of (y ∷ l)))))
+many_below m x (y ∷ l) h =
+    rw (→neq_z x m (omega (zarith, min_law x (least_of (y ∷ l)))), many_below m y l (omega (zarith, min_law x (least_of (y ∷ l)))))
 
 many_cons : (m x : ℤ) (l : List ℤ) → how_many m (x ∷ l) ≡ cond (eq_z x m) 1 0 + how_many m l
 unfolding how_many
@@ -85,7 +86,13 @@ greatest_all s x l = greatest_cons s (s +ℤ x) (map (λ (d : ℤ). s +ℤ d) l)
 
 longer : (b : Bool) (x : ℤ) (l : List ℤ) (t : ℤ)
     → (record { total = step b +ℤ t; least = least_of (step b ∷ map (λ (d : ℤ). step b +ℤ d) (x ∷ l)); greatest = greatest_of (step b ∷ map (λ (d : ℤ). step b +ℤ d) (x ∷ l)); count = pos (how_many (least_of (step b ∷ map (λ (d : ℤ). step b +ℤ d) (x ∷ l))) (step b ∷ map (λ (d : ℤ). step b +ℤ d) (x ∷ l))) })
-    ≡ joined (one b) (record { total = t; least = least_of (x ∷ l); greatest = greatest_of (x ∷ l); count = pos (how_many (least_of (x ∷ l)) (x ∷ l)) })
+    ≡ joined (one b) (record {
+      total =
+          t;
+      least = least_of (x ∷ l);
+      greatest = greatest_of (x ∷ l);
+      count = pos (how_many (least_of (x ∷ l)) (x ∷ l));
+    })
 unfolding joined one
 longer b x l t = same refl (least_all (step b) x l) (greatest_all (step b) x l)
     (rw (least_all (step b) x l) (cons_many (step b) x l _ refl))
@@ -120,7 +127,8 @@ summary_append (b ∷ x) y =
     rw (summary_cons b (x ++ y), summary_append x y, summary_cons b x) (sym (join_assoc (one b) (summary_of x) (summary_of y) (one_count b) (count_nonneg x) (count_nonneg y)))
 
 -- so joining is associative on the summaries of words, and their empty one changes nothing
-pub words_assoc : (x y z : List Bool) → join_of (join_of (summary_of x) (summary_of y)) (summary_of z) ≡ join_of (summary_of x) (join_of (summary_of y) (summary_of z))
+pub words_assoc : (x y z : List Bool)
+    → join_of (join_of (summary_of x) (summary_of y)) (summary_of z) ≡ join_of (summary_of x) (join_of (summary_of y) (summary_of z))
 words_assoc x y z = simp (← summary_append, append_assoc)
 
 pub words_empty : (x : List Bool) → join_of (summary_of x) empty_of ≡ summary_of x

@@ -79,13 +79,15 @@ opened k = (
         )
 
 -- y's least stands below x's, or at it
-below : (x y : Summary) → pos 0 <ℤ x.count → pos 0 <ℤ y.count → (x.total +ℤ y.least) <ℤ x.least → ((join_of x y).least ≡ x.total +ℤ y.least) × ((join_of x y).count ≡ y.count)
+below : (x y : Summary) → pos 0 <ℤ x.count → pos 0 <ℤ y.count → (x.total +ℤ y.least) <ℤ x.least
+    → ((join_of x y).least ≡ x.total +ℤ y.least) × ((join_of x y).count ≡ y.count)
 unfolding joined
 below x y h k l =
     let m : min_z x.least (x.total +ℤ y.least) ≡ x.total +ℤ y.least = omega (zarith, min_law x.least (x.total +ℤ y.least)) in
     rw (join_both x y h k) (m, rw (at_no x.least (min_z x.least (x.total +ℤ y.least)) x.count (omega zarith), at_yes (x.total +ℤ y.least) (min_z x.least (x.total +ℤ y.least)) y.count (sym m)) (+ℤ_idl y.count))
 
-level : (x y : Summary) → pos 0 <ℤ x.count → pos 0 <ℤ y.count → x.total +ℤ y.least ≡ x.least → ((join_of x y).least ≡ x.least) × ((join_of x y).count ≡ x.count +ℤ y.count)
+level : (x y : Summary) → pos 0 <ℤ x.count → pos 0 <ℤ y.count → x.total +ℤ y.least ≡ x.least
+    → ((join_of x y).least ≡ x.least) × ((join_of x y).count ≡ x.count +ℤ y.count)
 unfolding joined
 level x y h k l =
     let m : min_z x.least (x.total +ℤ y.least) ≡ x.least = omega (zarith, min_law x.least (x.total +ℤ y.least)) in
@@ -111,9 +113,11 @@ closed empty = rw (summary_single false) (refl, refl)
 closed (tree k r) =
     let y = summary_of (encode (tree k r)) in
     let h = rooted k r (closed r) in
-    let b = level (one false) y (omega zarith) (counted true (encode k ++ false ∷ encode r)) (omega (zarith, h.0, +law (negsuc 0) y.least)) in
+    let b =
+    level (one false) y (omega zarith) (counted true (encode k ++ false ∷ encode r)) (omega (zarith, h.0, +law (negsuc 0) y.least)) in
     rw (summary_cons false (encode (tree k r))) (b.0, b.1 ∙ omega (zarith, h.1, +law (pos 1) y.count))
 
 -- "number of children": a node's kids are a forest, and how many boundaries of its word reach the least, 0, is how many roots it has
-pub roots_summary : (k r : Forest) → ((summary_of (encode (tree k r))).least ≡ pos 0) × ((summary_of (encode (tree k r))).count ≡ pos (roots (tree k r)))
+pub roots_summary : (k r : Forest)
+    → ((summary_of (encode (tree k r))).least ≡ pos 0) × ((summary_of (encode (tree k r))).count ≡ pos (roots (tree k r)))
 roots_summary k r = rooted k r (closed r)

@@ -75,7 +75,8 @@ unfolding one summary_of depth_of depths least_of greatest_of how_many eq_z
 summary_single true = refl
 summary_single false = refl
 
-pub summary_next : (w : List Bool) (i : ℕ) (d : Bool) → i < length w → summary_of (take (i + 1) w) ≡ join_of (summary_of (take i w)) (one (get_or w i d))
+pub summary_next : (w : List Bool) (i : ℕ) (d : Bool) → i < length w
+    → summary_of (take (i + 1) w) ≡ join_of (summary_of (take i w)) (one (get_or w i d))
 summary_next w i d h = rw (add-one, take-suc w i d, summary_append, summary_single)
 
 pub one_bounded : (m : ℕ) (b : Bool) → 1 ≤ m → Bounded m (one b)

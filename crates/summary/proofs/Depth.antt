@@ -41,8 +41,18 @@ ends : (w : List Bool) → 0 < length w → Reaches w (summary_of w).least × Re
 ends [] h = absurd (omega zarith)
 ends (b ∷ w) h =
     let one = (reaches_iff (b ∷ w) (depth_of (take 1 (b ∷ w)))).0 (record { place = 1; after = omega zarith; inside = omega zarith; depth = refl }) in (
-      (reaches_iff (b ∷ w) (summary_of (b ∷ w)).least).1 (record { some = one.some; low = omega zarith; high = omega (zarith, one.low, one.high) }),
-      (reaches_iff (b ∷ w) (summary_of (b ∷ w)).greatest).1 (record { some = one.some; low = omega (zarith, one.low, one.high); high = omega zarith }),
+      (reaches_iff (b ∷ w) (summary_of (b ∷ w)).least).1 (record {
+        some =
+            one.some;
+        low = omega zarith;
+        high = omega (zarith, one.low, one.high);
+      }),
+      (reaches_iff (b ∷ w) (summary_of (b ∷ w)).greatest).1 (record {
+        some =
+            one.some;
+        low = omega (zarith, one.low, one.high);
+        high = omega zarith;
+      }),
     )
 
 pub least_reached : (w : List Bool) → 0 < length w → Reaches w (summary_of w).least
@@ -52,12 +62,15 @@ pub greatest_reached : (w : List Bool) → 0 < length w → Reaches w (summary_o
 greatest_reached w h = (ends w h).1
 
 -- the count is a tally of boundaries
-many_tally : (m : ℤ) (l : List ℤ) (f : ℕ → ℤ) → ((i : ℕ) → i < length l → get_or l i (pos 0) ≡ f (suc i)) → how_many m l ≡ tally (λ p. eq_z (f p) m) (length l)
+many_tally : (m : ℤ) (l : List ℤ) (f : ℕ → ℤ) → ((i : ℕ) → i < length l → get_or l i (pos 0) ≡ f (suc i))
+    → how_many m l ≡ tally (λ p. eq_z (f p) m) (length l)
 unfolding how_many
 many_tally m [] f h = refl
-many_tally m (x ∷ l) f h = ap₂ (λ y n. cond (eq_z y m) 1 0 + n) (h 0 (omega zarith)) (many_tally m l (λ p. f (suc p)) (λ i k. h (suc i) (omega zarith)))
+many_tally m (x ∷ l) f h =
+    ap₂ (λ y n. cond (eq_z y m) 1 0 + n) (h 0 (omega zarith)) (many_tally m l (λ p. f (suc p)) (λ i k. h (suc i) (omega zarith)))
 
-pub count_is : (w : List Bool) (f : ℕ → ℤ) → ((p : ℕ) → p ≤ length w → depth_of (take p w) ≡ f p) → (summary_of w).count ≡ pos (tally (λ p. eq_z (f p) (summary_of w).least) (length w))
+pub count_is : (w : List Bool) (f : ℕ → ℤ) → ((p : ℕ) → p ≤ length w → depth_of (take p w) ≡ f p)
+    → (summary_of w).count ≡ pos (tally (λ p. eq_z (f p) (summary_of w).least) (length w))
 unfolding summary_of
 count_is w f h = ap pos (many_tally (least_of (depths w)) (depths w) f (λ i k. depths_at w i (omega (zarith, depths_length w)) ∙ h (suc i) (omega (zarith, depths_length w)))
     ∙ ap (tally (λ p. eq_z (f p) (least_of (depths w)))) (depths_length w))
@@ -85,7 +98,8 @@ module _ (w : List Bool) (a b : ℕ) (l : a < b) (k : b ≤ length w) where
   at p h i = here (p - a) (omega zarith) ∙ ap (λ q. D w q -ℤ D w a) (let e : a + (p - a) ≡ p = omega zarith in e)
 
   spans : (p : ℕ) → a < p → p ≤ b → Spans (summary_of u) (D w p -ℤ D w a)
-  spans p h i = (reaches_iff u (D w p -ℤ D w a)).0 (record { place = p - a; after = omega zarith; inside = omega (zarith, long); depth = at p h i })
+  spans p h i =
+      (reaches_iff u (D w p -ℤ D w a)).0 (record { place = p - a; after = omega zarith; inside = omega (zarith, long); depth = at p h i })
 
   found : (t : ℤ) → Reaches u t → (p : ℕ) × (a < p) × (p ≤ b) × (D w p -ℤ D w a ≡ t)
   found t r = (a + r.place, omega (zarith, r.after), omega (zarith, r.inside, long), sym (here r.place (omega (zarith, r.inside, long))) ∙ r.depth)
@@ -97,5 +111,7 @@ module _ (w : List Bool) (a b : ℕ) (l : a < b) (k : b ≤ length w) where
     least_at = found (summary_of u).least (least_reached u (omega (zarith, long)));
     greatest_high = λ p h i. (spans p h i).high;
     greatest_at = found (summary_of u).greatest (greatest_reached u (omega (zarith, long)));
-    count = count_is u (λ j. D w (a + j) -ℤ D w a) (λ j h. here j (omega (zarith, long))) ∙ ap (λ n. pos (tally (λ j. eq_z (D w (a + j) -ℤ D w a) (summary_of u).least) n)) long;
+    count =
+        count_is u (λ j. D w (a + j) -ℤ D w a) (λ j h. here j (omega (zarith, long)))
+        ∙ ap (λ n. pos (tally (λ j. eq_z (D w (a + j) -ℤ D w a) (summary_of u).least) n)) long;
   }

@@ -61,7 +61,13 @@ pub made : (x y : Summary) → Bounded 4194304 x → Bounded 4194304 y → (leas
     → here ≡ at (rb x.least) (rb least) (rb x.count)
     → there ≡ at (rb (rb x.total +ℤ rb y.least)) (rb least) (rb y.count)
     → rb greatest ≡ int_max (rb x.greatest) (rb (rb x.total +ℤ rb y.greatest))
-    → (record { total = rb (rb x.total +ℤ rb y.total); least = rb least; greatest = rb greatest; count = rb (rb here +ℤ rb there) }) ≡ joined x y
+    → (record {
+      total =
+          rb (rb x.total +ℤ rb y.total);
+      least = rb least;
+      greatest = rb greatest;
+      count = rb (rb here +ℤ rb there);
+    }) ≡ joined x y
 unfolding joined
 made x y hx hy least here there greatest em ei ej eg =
     let low : rb (rb x.total +ℤ rb y.least) ≡ x.total +ℤ y.least = add_back x.total y.least hx.total hy.least in

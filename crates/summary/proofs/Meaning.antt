@@ -101,7 +101,8 @@ pub least_next : (b c : Bool) (w : List Bool) → least_of (depths (b ∷ c ∷ 
 unfolding depths
 least_next b c w = least_all (step b) (step c) (map (λ (d : ℤ). step c +ℤ d) (depths w))
 
-pub greatest_next : (b c : Bool) (w : List Bool) → greatest_of (depths (b ∷ c ∷ w)) ≡ max_z (step b) (step b +ℤ greatest_of (depths (c ∷ w)))
+pub greatest_next : (b c : Bool) (w : List Bool)
+    → greatest_of (depths (b ∷ c ∷ w)) ≡ max_z (step b) (step b +ℤ greatest_of (depths (c ∷ w)))
 unfolding depths
 greatest_next b c w = greatest_all (step b) (step c) (map (λ (d : ℤ). step c +ℤ d) (depths w))
 

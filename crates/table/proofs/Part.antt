@@ -44,10 +44,12 @@ pub within : (bytes : List ℕ) (q n i : ℕ) → i < length (take n (drop q byt
 within bytes q n i h = omega (arith, length-take n (drop q bytes))
 
 -- the row of byte i of the n bytes from place q on
-pub row_at : (rows : List (List ℤ)) (bytes : List ℕ) (q n i : ℕ) (d : List ℤ) → rows ≡ map four rows_of → get_or bytes (q + i) 0 < 256 → i < length (take n (drop q bytes))
+pub row_at : (rows : List (List ℤ)) (bytes : List ℕ) (q n i : ℕ) (d : List ℤ) → rows ≡ map four rows_of → get_or bytes (q + i) 0 < 256
+    → i < length (take n (drop q bytes))
     → of_four (get_or rows (get_or (take n (drop q bytes)) i 0) d) ≡ summary_of (bits bytes (8 * (q + i)) 8)
 row_at rows bytes q n i d e l h =
-    let z : get_or (take n (drop q bytes)) i 0 ≡ get_or bytes (q + i) 0 = get_or-take n (drop q bytes) i 0 (within bytes q n i h) ∙ get_or-drop q bytes i 0 in
+    let z : get_or (take n (drop q bytes)) i 0 ≡ get_or bytes (q + i) 0 =
+    get_or-take n (drop q bytes) i 0 (within bytes q n i h) ∙ get_or-drop q bytes i 0 in
     rw z (row_is rows (get_or bytes (q + i) 0) d e l ∙ row_bits bytes (q + i))
 
 part_bounded : (bytes : List ℕ) (i n : ℕ) → n ≤ 4194304 → Bounded 4194304 (summary_of (bits bytes i n))
@@ -62,7 +64,8 @@ module _ (bytes : List ℕ) (i n : ℕ) {s : Summary} (u : s ≡ summary_of (bit
   pub fits : n ≤ 4194304 → Bounded 4194304 s
   fits l = rw u (part_bounded bytes i n l)
 
-  pub goes_on : (j k r : ℕ) {t : Summary} → t ≡ summary_of (bits bytes j k) → j ≡ i + n → r ≡ n + k → join_of s t ≡ summary_of (bits bytes i r)
+  pub goes_on : (j k r : ℕ) {t : Summary} → t ≡ summary_of (bits bytes j k) → j ≡ i + n → r ≡ n + k
+      → join_of s t ≡ summary_of (bits bytes i r)
   goes_on j k r e p q = rw (u, e, p, q, bits_append bytes i n k) (sym (summary_append (bits bytes i n) (bits bytes (i + n) k)))
 
 -- ---- "An unfinished last byte is taken bit by bit."

@@ -13,7 +13,8 @@ use Rattle.table.specs.Rows.{row_of, part, number_at, listed, table_of, rows_of,
 four_at : (f : ℕ → Summary) (i n k : ℕ) (d : List ℤ) → k < n → get_or (map four (listed f i n)) k d ≡ four (f (i + k))
 four_at f i zero k d h = absurd (omega arith)
 four_at f i (suc n) zero d h = ap (λ k. four (f k)) (let e : i ≡ i + 0 = omega arith in e)
-four_at f i (suc n) (suc k) d h = four_at f (suc i) n k d (omega arith) ∙ ap (λ k. four (f k)) (let e : suc i + k ≡ i + suc k = omega arith in e)
+four_at f i (suc n) (suc k) d h =
+    four_at f (suc i) n k d (omega arith) ∙ ap (λ k. four (f k)) (let e : suc i + k ≡ i + suc k = omega arith in e)
 
 -- the row of byte b
 pub row_is : (rows : List (List ℤ)) (b : ℕ) (d : List ℤ) → rows ≡ map four rows_of → b < 256 → of_four (get_or rows b d) ≡ row_of b

@@ -23,7 +23,8 @@ pub lines_few : (answers : List ℕ) → length (lines answers) ≤ 11 * length 
 lines_few [] = omega arith
 lines_few (code ∷ []) = omega arith
 lines_few (code ∷ (result ∷ [])) = omega arith
-lines_few (code ∷ (result ∷ (reads ∷ answers))) = omega (arith, length-append (line code result reads) (lines answers), line_few code result reads, lines_few answers)
+lines_few (code ∷ (result ∷ (reads ∷ answers))) =
+    omega (arith, length-append (line code result reads) (lines answers), line_few code result reads, lines_few answers)
 
 pub refusal_few : (code : ℕ) → length (refusal code) ≤ 19
 refusal_few code = omega (arith, length-append refused (number code 10), number_few code 10)

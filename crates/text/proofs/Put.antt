@@ -24,7 +24,8 @@ pub record Left (all rest out₀ : List ℕ) (at : ℕ) (out : List ℕ) : Type 
   pub out_goes : sets out at rest ≡ sets out₀ 0 all
   pub end_goes : at + length rest ≡ length all
 
-pub left_step : (all xs rest out₀ out next : List ℕ) (at p : ℕ) → Left all (xs ++ rest) out₀ at out → Put xs out at p next → Left all rest out₀ p next
+pub left_step : (all xs rest out₀ out next : List ℕ) (at p : ℕ) → Left all (xs ++ rest) out₀ at out → Put xs out at p next
+    → Left all rest out₀ p next
 left_step all xs rest out₀ out next at p l q =
     record {
       out_goes = ap₂ (λ o n. sets o n rest) q.left_is q.end_is ∙ sym (sets_append out at xs rest) ∙ l.out_goes;

@@ -16,7 +16,8 @@ use Rattle.word.specs.Forest.{Forest, empty, tree, encode, count, D}
 use Rattle.word.specs.Depth.{Forward, NoForward, Backward, NoBackward, Least}
 use Rattle.word.specs.Nodes.{Node, closing, at, ask, chain_of, chain, on}
 use Rattle.word.specs.Questions.{shared, size, roots, first_root}
-use Rattle.word.specs.Questions.{depth, number, with_number, closing_of, opening_of, ancestor, parent, branch, children, first_child, next_sibling, nearest, lowest, holds}
+use Rattle.word.specs.Questions.{depth, number, with_number, closing_of, opening_of, ancestor, parent, branch, children, first_child}
+use Rattle.word.specs.Questions.{next_sibling, nearest, lowest, holds}
 use Rattle.word.specs.Signed.{P, eq_z}
 use Rattle.word.proofs.Tests.{T_true, true_T, same_test}
 use Rattle.word.proofs.Signed.{zarith, parts, ne→, +law, -law, P_neg, N_neg}
@@ -155,11 +156,14 @@ module _ (f : Forest) (a : ℕ) (o : get_or (encode f) a false ≡ true) where
         answer = asked (λ x. some (roots x.kids));
         long = l;
         leaf = ((λ e. omega (arith, h.later, ap (λ i. length (encode i)) e)), λ e. no_bits k (omega arith));
-        bits = ap₂ (λ i p. take i (drop (suc p) (encode f))) (eq (pred q - suc a) (length (encode k)) (omega arith)) (sym n.here) ∙ n.placed.below;
+        bits =
+            ap₂ (λ i p. take i (drop (suc p) (encode f))) (eq (pred q - suc a) (length (encode k)) (omega arith)) (sym n.here)
+            ∙ n.placed.below;
       }
 
   -- how many boundaries from a + 2 to the closing are one deeper than a, which is the least there
-  pub children_tally : (q : ℕ) → Forward (encode f) a (pos 0) q → children f a ≡ some (tally (λ j. eq_z (D (encode f) (suc a + j)) (D (encode f) (suc a))) (pred q - suc a))
+  pub children_tally : (q : ℕ) → Forward (encode f) a (pos 0) q
+      → children f a ≡ some (tally (λ j. eq_z (D (encode f) (suc a + j)) (D (encode f) (suc a))) (pred q - suc a))
   children_tally q h =
       let c = children_by q h in
       c.answer ∙ ap some (roots_part (encode f) (suc a) (pred q - suc a) c.kids c.bits (omega (arith, c.long)))

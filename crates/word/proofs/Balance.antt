@@ -32,7 +32,8 @@ module _ (f : Forest) where
 -- ---- any word
 
 -- read from its end, a word that has h closings too many, and never more than h, leaves h + 1 forests
-read_length : (w : List Bool) (h : ℕ) → ((p : ℕ) → p ≤ length w → rank false w p ≤ h + rank true w p) → h + count true w ≡ count false w → length (read w) ≡ suc h
+read_length : (w : List Bool) (h : ℕ) → ((p : ℕ) → p ≤ length w → rank false w p ≤ h + rank true w p) → h + count true w ≡ count false w
+    → length (read w) ≡ suc h
 read_length [] zero low ends = refl
 read_length [] (suc h) low ends = absurd (omega arith)
 read_length (true ∷ w) h low ends = go (read w) (read_length w (suc h) (λ p l. omega (arith, low (suc p) (omega arith))) (omega arith))

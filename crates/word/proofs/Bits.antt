@@ -16,17 +16,20 @@ length_bits bytes i (suc n) = ap suc (length_bits bytes (suc i) n)
 pub bit_bits : (bytes : List ℕ) (i n j : ℕ) (d : Bool) → j < n → get_or (bits bytes i n) j d ≡ bit bytes (i + j)
 bit_bits bytes i zero j d h = absurd (omega arith)
 bit_bits bytes i (suc n) zero d h = ap (bit bytes) (let e : i ≡ i + 0 = omega arith in e)
-bit_bits bytes i (suc n) (suc j) d h = bit_bits bytes (suc i) n j d (omega arith) ∙ ap (bit bytes) (let e : suc i + j ≡ i + suc j = omega arith in e)
+bit_bits bytes i (suc n) (suc j) d h =
+    bit_bits bytes (suc i) n j d (omega arith) ∙ ap (bit bytes) (let e : suc i + j ≡ i + suc j = omega arith in e)
 
 -- one bit further
-pub opens : (w : List Bool) (p : ℕ) → get_or w p false ≡ true → (count true (take (suc p) w) ≡ suc (count true (take p w))) × (count false (take (suc p) w) ≡ count false (take p w))
+pub opens : (w : List Bool) (p : ℕ) → get_or w p false ≡ true
+    → (count true (take (suc p) w) ≡ suc (count true (take p w))) × (count false (take (suc p) w) ≡ count false (take p w))
 opens [] p o = (cc, cc)
 opens (true ∷ w) zero o = (refl, refl)
 opens (false ∷ w) zero o = (cc, cc)
 opens (true ∷ w) (suc p) o = (ap suc (opens w p o).0, (opens w p o).1)
 opens (false ∷ w) (suc p) o = ((opens w p o).0, ap suc (opens w p o).1)
 
-pub closes : (w : List Bool) (p : ℕ) → get_or w p true ≡ false → (count true (take (suc p) w) ≡ count true (take p w)) × (count false (take (suc p) w) ≡ suc (count false (take p w)))
+pub closes : (w : List Bool) (p : ℕ) → get_or w p true ≡ false
+    → (count true (take (suc p) w) ≡ count true (take p w)) × (count false (take (suc p) w) ≡ suc (count false (take p w)))
 closes [] p o = (cc, cc)
 closes (true ∷ w) zero o = (cc, cc)
 closes (false ∷ w) zero o = (refl, refl)
@@ -34,7 +37,9 @@ closes (true ∷ w) (suc p) o = (ap suc (closes w p o).0, (closes w p o).1)
 closes (false ∷ w) (suc p) o = ((closes w p o).0, ap suc (closes w p o).1)
 
 pub D_opens : (w : List Bool) (p : ℕ) → get_or w p false ≡ true → D w (suc p) ≡ suc_ℤ (D w p)
-D_opens w p o = ap₂ (λ a b. pos a -ℤ pos b) (opens w p o).0 (opens w p o).1 ∙ suc_ℤ-+ℤ (pos (count true (take p w))) (neg_ℤ (pos (count false (take p w))))
+D_opens w p o =
+    ap₂ (λ a b. pos a -ℤ pos b) (opens w p o).0 (opens w p o).1
+    ∙ suc_ℤ-+ℤ (pos (count true (take p w))) (neg_ℤ (pos (count false (take p w))))
 
 pub D_closes : (w : List Bool) (p : ℕ) → get_or w p true ≡ false → D w (suc p) ≡ pred_ℤ (D w p)
 D_closes w p o = ap₂ (λ a b. pos a -ℤ pos b) (closes w p o).0 (closes w p o).1

@@ -146,7 +146,8 @@ module _ (w : List Bool) where
       low j u v (no x) (yes y) = omega (zarith, s.low j (omega arith) y)
       low j u v (no x) (no y) = omega (zarith, k.after, ap (D w) (eq j (suc i) (omega arith)))
 
-      partnered : (a : ℕ) → lo ≤ a → a < suc i → get_or w a false ≡ true → Dec (a < p) → Dec (a ≡ p) → Dec (a ≡ i) → (c : ℕ) × Partners w a c
+      partnered : (a : ℕ) → lo ≤ a → a < suc i → get_or w a false ≡ true → Dec (a < p) → Dec (a ≡ p) → Dec (a ≡ i)
+          → (c : ℕ) × Partners w a c
       partnered a u v o (yes x) y z = t.partnered a u x o
       partnered a u v o (no x) (yes y) z = (i, subst (λ q. Partners w q i) (sym y) (span_partners p i d k))
       partnered a u v o (no x) (no y) (yes z) =
@@ -178,7 +179,13 @@ module _ (w : List Bool) where
   ground i p [] h = record { before = h.3; opened = h.1; inside = h.0; above = λ j u v. omega (zarith, h.2.low j u v) }
   ground i p (q ∷ ps) h =
       let g = ground p q ps h.3 in
-      record { before = g.before; opened = g.opened; inside = omega (arith, g.inside, h.0); above = λ j u v. go j v (dec_le j p) (g.above j u) }
+      record {
+        before =
+            g.before;
+        opened = g.opened;
+        inside = omega (arith, g.inside, h.0);
+        above = λ j u v. go j v (dec_le j p) (g.above j u);
+      }
     where
       go : (j : ℕ) → j ≤ i → Dec (j ≤ p) → (j ≤ p → pos 0 <ℤ D w j) → pos 0 <ℤ D w j
       go j v (yes k) f = f k
@@ -216,7 +223,11 @@ module _ (w : List Bool) where
   known = read_on w 0 [] refl (omega arith) start (λ c l. absurd (omega arith))
     where
       start : Settled 0 0 0
-      start = record { low = λ j u v. subst (λ k. pos 0 ≤ℤ D w k) (eq 0 j (omega arith)) (omega zarith); level = refl; partnered = λ a u v. absurd (omega arith) }
+      start = record {
+        low = λ j u v. subst (λ k. pos 0 ≤ℤ D w k) (eq 0 j (omega arith)) (omega zarith);
+        level = refl;
+        partnered = λ a u v. absurd (omega arith);
+      }
 
 -- ---- the laws
 
@@ -289,7 +300,8 @@ module _ (w : List Bool) where
   one_only none (some (closing_alone i)) s t = absurd (dips i t ((balanced_iff w).0 s).0)
   one_only none (some (opening_alone i)) s t = absurd (stays_up i t ((balanced_iff w).0 s).1)
   one_only (some (closing_alone i)) none s t = absurd (dips i s ((balanced_iff w).0 t).0)
-  one_only (some (closing_alone i)) (some (closing_alone j)) s t = ap (λ n. some (closing_alone (pred n))) (forward_unique w 0 (negsuc 0) (suc i) (suc j) s t)
+  one_only (some (closing_alone i)) (some (closing_alone j)) s t =
+      ap (λ n. some (closing_alone (pred n))) (forward_unique w 0 (negsuc 0) (suc i) (suc j) s t)
   one_only (some (closing_alone i)) (some (opening_alone j)) s t = absurd (dips i s t.never)
   one_only (some (opening_alone i)) none s t = absurd (stays_up i s ((balanced_iff w).0 t).1)
   one_only (some (opening_alone i)) (some (closing_alone j)) s t = absurd (dips j t s.never)

@@ -20,7 +20,8 @@ use Rattle.word.proofs.Depth.{eq, count_append, rank, rank_add, rank_past, D_law
 -- it has as many openings as closings
 pub even : (f : Forest) → count true (encode f) ≡ count false (encode f)
 even empty = refl
-even (tree k r) = omega (arith, count_append true (encode k) (false ∷ encode r), count_append false (encode k) (false ∷ encode r), even k, even r)
+even (tree k r) =
+    omega (arith, count_append true (encode k) (false ∷ encode r), count_append false (encode k) (false ∷ encode r), even k, even r)
 
 -- and among its first bits, whatever follows it, never more closings than openings
 abbrev NeverBelow : Forest → Type 0
@@ -30,10 +31,12 @@ never_below_tree : (k r : Forest) → NeverBelow k → NeverBelow r → (v : Lis
     → rank false (encode k ++ (false ∷ encode r ++ v)) q ≤ suc (rank true (encode k ++ (false ∷ encode r ++ v)) q)
 never_below_tree k r ihk ihr v q h = go (dec_le q (length (encode k)))
   where
-    past : (b : Bool) (p : ℕ) → q ≡ length (encode k) + suc p → rank b (encode k ++ (false ∷ encode r ++ v)) q ≡ count b (encode k) + rank b (false ∷ encode r ++ v) (suc p)
+    past : (b : Bool) (p : ℕ) → q ≡ length (encode k) + suc p
+        → rank b (encode k ++ (false ∷ encode r ++ v)) q ≡ count b (encode k) + rank b (false ∷ encode r ++ v) (suc p)
     past b p e = rw e (rank_past b (encode k) (false ∷ encode r ++ v) (suc p))
 
-    go : Dec (q ≤ length (encode k)) → rank false (encode k ++ (false ∷ encode r ++ v)) q ≤ suc (rank true (encode k ++ (false ∷ encode r ++ v)) q)
+    go : Dec (q ≤ length (encode k))
+        → rank false (encode k ++ (false ∷ encode r ++ v)) q ≤ suc (rank true (encode k ++ (false ∷ encode r ++ v)) q)
     go (yes l) = omega (arith, ihk (false ∷ encode r ++ v) q l)
     go (no n) =
         let p : ℕ = q - suc (length (encode k)) in
@@ -112,7 +115,8 @@ module _ (w : List Bool) where
   drop_at : (at q : ℕ) (t : List Bool) → drop at w ≡ t → drop (at + q) w ≡ drop q t
   drop_at at q t e = sym (drop-drop q at w) ∙ ap (drop q) e
 
-  span : (k : Forest) (v : List Bool) (at d : ℕ) → drop at w ≡ true ∷ encode k ++ (false ∷ v) → D w at ≡ pos d → Span w at (suc (at + length (encode k))) d
+  span : (k : Forest) (v : List Bool) (at d : ℕ) → drop at w ≡ true ∷ encode k ++ (false ∷ v) → D w at ≡ pos d
+      → Span w at (suc (at + length (encode k))) d
   span k v at d here level = record {
     proper = omega arith;
     within = omega (arith, length-drop at w, ap length here, length-append (encode k) (false ∷ v));
@@ -141,7 +145,8 @@ module _ (w : List Bool) where
       t : List Bool
       t = true ∷ encode k ++ (false ∷ v)
 
-  placed : (f : Forest) (at : ℕ) (ps : List ℕ) (v : List Bool) → drop at w ≡ encode f ++ v → get_or v 0 false ≡ false → D w at ≡ pos (length ps)
+  placed : (f : Forest) (at : ℕ) (ps : List ℕ) (v : List Bool) → drop at w ≡ encode f ++ v → get_or v 0 false ≡ false
+      → D w at ≡ pos (length ps)
       → Under w at (pred (at + length (encode f))) ps → All (Placed w) (nodes at ps f)
   placed empty at ps v here ends level under = tt
   placed (tree k r) at ps v here ends level under =
@@ -150,8 +155,10 @@ module _ (w : List Bool) where
       let t : List Bool = true ∷ encode k ++ (false ∷ encode r ++ v) in
       let h : drop at w ≡ t = here ∙ ap (true ∷◌) (append_assoc (encode k) (false ∷ encode r) v) in
       let next : drop (at + 1) w ≡ encode k ++ (false ∷ encode r ++ v) = drop_at at 1 t h in
-      let past : drop (at + suc (n + 1)) w ≡ encode r ++ v = drop_at at (suc (n + 1)) t h ∙ drop-append-add (encode k) (false ∷ encode r ++ v) 1 in
-      let part : length (encode k ++ false ∷ encode r) ≡ suc (n + length (encode r)) = omega (arith, length-append (encode k) (false ∷ encode r)) in
+      let past : drop (at + suc (n + 1)) w ≡ encode r ++ v =
+      drop_at at (suc (n + 1)) t h ∙ drop-append-add (encode k) (false ∷ encode r ++ v) 1 in
+      let part : length (encode k ++ false ∷ encode r) ≡ suc (n + length (encode r)) =
+      omega (arith, length-append (encode k) (false ∷ encode r)) in
       let s : Span w at (closing x) (length ps) = span k (encode r ++ v) at (length ps) h level in
       let u : Under w at (closing x) ps = under_part w ps under (omega arith) (omega arith) in (
         record {

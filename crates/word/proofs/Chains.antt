@@ -79,7 +79,8 @@ past_end zero (p ∷ ps) e = absurd (none-ne-some p (sym e))
 past_end (suc b) (p ∷ ps) e = omega (arith, past_end b ps e)
 
 -- it is where D last was b less
-pub up_backward : (w : List Bool) (b p e : ℕ) (ps : List ℕ) (q : ℕ) → Chain w p e ps → 0 < b → get_elem? (p ∷ ps) b ≡ some q → Backward w p (neg_ℤ (pos b)) q
+pub up_backward : (w : List Bool) (b p e : ℕ) (ps : List ℕ) (q : ℕ) → Chain w p e ps → 0 < b → get_elem? (p ∷ ps) b ≡ some q
+    → Backward w p (neg_ℤ (pos b)) q
 up_backward w b p e ps q g l h =
     let u = chain_up w b p e ps q g h in
     record {
@@ -97,7 +98,8 @@ up_backward w b p e ps q g l h =
     }
 
 -- past the chain's end D was never so low, since it is never negative
-pub up_none : (w : List Bool) (b p e : ℕ) (ps : List ℕ) → Chain w p e ps → get_elem? (p ∷ ps) b ≡ none → (d : ℕ) → pos d ≡ D w p +ℤ neg_ℤ (pos b) → ⊥
+pub up_none : (w : List Bool) (b p e : ℕ) (ps : List ℕ) → Chain w p e ps → get_elem? (p ∷ ps) b ≡ none → (d : ℕ)
+    → pos d ≡ D w p +ℤ neg_ℤ (pos b) → ⊥
 up_none w b p e ps g h d k = omega (zarith, g.0.before, past_end b (p ∷ ps) h, +law (D w p) (neg_ℤ (pos b)), P_neg (pos b), N_neg (pos b))
 
 -- ---- one place, one chain
@@ -134,7 +136,8 @@ between_on w q c d p e [] s g l h = go (ℕ_discrete p q)
     go : Dec (p ≡ q) → on (p ∷ []) q ≡ true
     go (yes i) = on_here p q [] i
     go (no n) = absurd (omega (zarith, s.inside p (omega arith) h, g.0.before))
-between_on w q c d p e (r ∷ ps) s g l h = go (ℕ_discrete p q) (dec_le q r) (λ k. between_on w q c d r g.1.0 ps s (g.1.3, g.1.4) k (omega arith))
+between_on w q c d p e (r ∷ ps) s g l h =
+    go (ℕ_discrete p q) (dec_le q r) (λ k. between_on w q c d r g.1.0 ps s (g.1.3, g.1.4) k (omega arith))
   where
     go : Dec (p ≡ q) → Dec (q ≤ r) → (q ≤ r → on (r ∷ ps) q ≡ true) → on (p ∷ r ∷ ps) q ≡ true
     go (yes i) k ih = on_here p q (r ∷ ps) i
@@ -182,7 +185,8 @@ module _ (w : List Bool) (a b e m : ℕ) (bs : List ℕ) (gb : Chain w b e bs) (
       go (no k) = let r = goes_on p c [] g h (omega arith) in r.0 ∙ ap (get_elem? (p ∷ [])) (eq 1 (1 - m) (omega arith))
   climb p c (q ∷ ps) g l h = go (dec_le b c) (climb q g.1.0 ps (g.1.3, g.1.4) (omega arith) (omega arith))
     where
-      go : Dec (b ≤ c) → shared (q ∷ ps) (b ∷ bs) ≡ get_elem? (q ∷ ps) (suc (length ps) - m) → shared (p ∷ q ∷ ps) (b ∷ bs) ≡ get_elem? (p ∷ q ∷ ps) (suc (suc (length ps)) - m)
+      go : Dec (b ≤ c) → shared (q ∷ ps) (b ∷ bs) ≡ get_elem? (q ∷ ps) (suc (length ps) - m)
+          → shared (p ∷ q ∷ ps) (b ∷ bs) ≡ get_elem? (p ∷ q ∷ ps) (suc (suc (length ps)) - m)
       go (yes k) ih = stops p c (q ∷ ps) g l k
       go (no k) ih = let r = goes_on p c (q ∷ ps) g h (omega arith) in
           r.0 ∙ ih ∙ ap (get_elem? (p ∷ q ∷ ps)) (eq (suc (suc (length ps) - m)) (suc (suc (length ps)) - m) (omega arith))

@@ -25,7 +25,8 @@ tally_ext t u zero h = refl
 tally_ext t u (suc n) h = ap₂ (λ b m. cond b 1 0 + m) (h 1 (omega arith) (omega arith)) (tally_ext (λ j. t (suc j)) (λ j. u (suc j)) n (λ j l k. h (suc j) (omega arith) (omega arith)))
 
 tally_add : (t : ℕ → Bool) (m n : ℕ) → tally t (m + n) ≡ tally t m + tally (λ j. t (m + j)) n
-tally_add t zero n = omega (arith, ap (tally t) (eq (0 + n) n (omega arith)) ∙ tally_ext t (λ j. t (0 + j)) n (λ j l k. ap t (eq j (0 + j) (omega arith))))
+tally_add t zero n =
+    omega (arith, ap (tally t) (eq (0 + n) n (omega arith)) ∙ tally_ext t (λ j. t (0 + j)) n (λ j l k. ap t (eq j (0 + j) (omega arith))))
 tally_add t (suc m) n =
     ap (tally t) (eq (suc m + n) (suc (m + n)) (omega arith))
     ∙ omega (arith, tally_add (λ j. t (suc j)) m n, tally_ext (λ j. t (suc (m + j))) (λ j. t (suc m + j)) n (λ j l k. ap t (eq (suc (m + j)) (suc m + j) (omega arith))))
@@ -39,7 +40,8 @@ abbrev at_zero : List Bool → ℕ → Bool
 at_zero w j = eq_z (D w j) (pos 0)
 
 -- the first tree's word is e + 1 long, and only its last boundary is at 0
-roots_tree : (w v : List Bool) (e : ℕ) → Span w 0 e 0 → drop (suc e) w ≡ v → (n : ℕ) → tally (at_zero w) (suc e + n) ≡ suc (tally (at_zero v) n)
+roots_tree : (w v : List Bool) (e : ℕ) → Span w 0 e 0 → drop (suc e) w ≡ v → (n : ℕ)
+    → tally (at_zero w) (suc e + n) ≡ suc (tally (at_zero v) n)
 roots_tree w v e s d n = omega (
   arith,
   tally_add (at_zero w) (suc e) n,
@@ -62,8 +64,11 @@ roots_tally (tree k r) =
     ∙ ap (tally (at_zero w)) (eq (suc e + length (encode r)) (length w) (omega (arith, length-append (encode k) (false ∷ encode r))))
 
 -- the same, where that word is n bits of a longer one, from place p on
-pub roots_part : (w : List Bool) (p n : ℕ) (k : Forest) → take n (drop p w) ≡ encode k → n ≡ length (encode k) → roots k ≡ tally (λ j. eq_z (D w (p + j)) (D w p)) n
-roots_part w p n k b i = roots_tally k ∙ ap (tally (at_zero (encode k))) (sym i) ∙ tally_ext (at_zero (encode k)) (λ j. eq_z (D w (p + j)) (D w p)) n (λ j l h. same j (D_part w p n j h))
+pub roots_part : (w : List Bool) (p n : ℕ) (k : Forest) → take n (drop p w) ≡ encode k → n ≡ length (encode k)
+    → roots k ≡ tally (λ j. eq_z (D w (p + j)) (D w p)) n
+roots_part w p n k b i =
+    roots_tally k ∙ ap (tally (at_zero (encode k))) (sym i)
+    ∙ tally_ext (at_zero (encode k)) (λ j. eq_z (D w (p + j)) (D w p)) n (λ j l h. same j (D_part w p n j h))
   where
     same : (j : ℕ) → D w (p + j) ≡ D w p +ℤ D (take n (drop p w)) j → eq_z (D (encode k) j) (pos 0) ≡ eq_z (D w (p + j)) (D w p)
     same j e =

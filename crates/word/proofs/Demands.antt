@@ -68,7 +68,8 @@ shared_none : (c d : List ℕ) → shared c d ≡ none → (q : ℕ) → on c q 
 shared_none [] d e q m n = true≢false (sym m)
 shared_none (r ∷ c) d e q m n = go (on d r) refl e (on_cases r q c m) (λ e' m'. shared_none c d e' q m' n)
   where
-    go : (b : Bool) → on d r ≡ b → cond b (some r) (shared c d) ≡ none → (r ≡ q) ⊎ (on c q ≡ true) → (shared c d ≡ none → on c q ≡ true → ⊥) → ⊥
+    go : (b : Bool) → on d r ≡ b → cond b (some r) (shared c d) ≡ none → (r ≡ q) ⊎ (on c q ≡ true)
+        → (shared c d ≡ none → on c q ≡ true → ⊥) → ⊥
     go true o e m ih = none-ne-some r (sym e)
     go false o e (inl i) ih = true≢false (sym n ∙ ap (on d) (sym i) ∙ o)
     go false o e (inr m) ih = ih e m
@@ -187,11 +188,15 @@ module _ (f : Forest) where
   same_over none none h k b = refl
   same_over none (some c) h k b = absurd ((b c).1 (holds_self c k))
   same_over (some a) none h k b = absurd ((b a).0 (holds_self a h))
-  same_over (some a) (some c) h k b = ap some (omega (arith, holds_le a c ((b a).0 (holds_self a h)), holds_le c a ((b c).1 (holds_self c k))))
+  same_over (some a) (some c) h k b =
+      ap some (omega (arith, holds_le a c ((b a).0 (holds_self a h)), holds_le c a ((b c).1 (holds_self c k))))
 
   pub meet_comm : (x y : Option ℕ) → meet f x y ≡ meet f y x
-  meet_comm x y = same_over (meet f x y) (meet f y x) (meet_node x y) (meet_node y x) λ q.
-      (λ h. let n = (over_meet x y q).0 h in (over_meet y x q).1 (n.1, n.0), λ h. let n = (over_meet y x q).0 h in (over_meet x y q).1 (n.1, n.0))
+  meet_comm x y = same_over (meet f x y) (meet f y x) (meet_node x y) (meet_node y x) λ q. (
+    λ h. let n =
+        (over_meet x y q).0 h in (over_meet y x q).1 (n.1, n.0),
+    λ h. let n = (over_meet y x q).0 h in (over_meet x y q).1 (n.1, n.0),
+  )
 
   pub meet_assoc : (x y z : Option ℕ) → meet f (meet f x y) z ≡ meet f x (meet f y z)
   meet_assoc x y z = same_over (meet f (meet f x y) z) (meet f x (meet f y z)) (meet_node (meet f x y) z) (meet_node x (meet f y z)) λ q. (
@@ -227,7 +232,8 @@ module _ (f : Forest) where
     run_ends c e =
         let x = node_at f a oa in
         let s = x.upward.0 in
-        let k : suc (size x.x.kids) ≡ n = (let h : some (suc (size x.x.kids)) ≡ some n = ap (λ y. ask y (λ z. some (suc (size z.kids)))) (sym x.found) ∙ en in cc) in
+        let k : suc (size x.x.kids) ≡ n =
+        (let h : some (suc (size x.x.kids)) ≡ some n = ap (λ y. ask y (λ z. some (suc (size z.kids)))) (sym x.found) ∙ en in cc) in
         rw (← e) (omega (
           zarith,
           x.here,

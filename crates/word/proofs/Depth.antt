@@ -74,7 +74,9 @@ pub D_add : (w : List Bool) (p q : ℕ) → D w (p + q) ≡ D w p +ℤ D (drop p
 D_add w p q = omega (zarith, +law (D w p) (D (drop p w) q), D_law w (p + q), D_law w p, D_law (drop p w) q, rank_add true w p q, rank_add false w p q)
 
 pub D_end : (w : List Bool) → P (D w (length w)) + count false w ≡ N (D w (length w)) + count true w
-D_end w = ap (λ u. P (D w (length w)) + count false u) (sym (take-length w)) ∙ D_law w (length w) ∙ ap (λ u. N (D w (length w)) + count true u) (take-length w)
+D_end w =
+    ap (λ u. P (D w (length w)) + count false u) (sym (take-length w)) ∙ D_law w (length w)
+    ∙ ap (λ u. N (D w (length w)) + count true u) (take-length w)
 
 -- D of a stretch of n bits, from place p on
 pub D_part : (w : List Bool) (p n q : ℕ) → q ≤ n → D w (p + q) ≡ D w p +ℤ D (take n (drop p w)) q

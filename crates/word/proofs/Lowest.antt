@@ -49,9 +49,15 @@ module _ (w : List Bool) (a : ℕ) where
 
   pub lowest_is : (n : ℕ) → Lowest w a n (lowest w a n)
   unfolding lowest
-  lowest_is zero = record { from = omega arith; to = omega arith; low = λ j p q. subst (λ i. D w a ≤ℤ D w i) (eq a j (omega arith)) (omega zarith); left = λ j p q. absurd (omega arith) }
+  lowest_is zero = record {
+    from = omega arith;
+    to = omega arith;
+    low = λ j p q. subst (λ i. D w a ≤ℤ D w i) (eq a j (omega arith)) (omega zarith);
+    left = λ j p q. absurd (omega arith);
+  }
   lowest_is (suc n) = go (lt_z (D w (a + suc n)) (D w (lowest w a n))) refl (lowest_is n)
     where
-      go : (t : Bool) → lt_z (D w (a + suc n)) (D w (lowest w a n)) ≡ t → Lowest w a n (lowest w a n) → Lowest w a (suc n) (cond t (a + suc n) (lowest w a n))
+      go : (t : Bool) → lt_z (D w (a + suc n)) (D w (lowest w a n)) ≡ t → Lowest w a n (lowest w a n)
+          → Lowest w a (suc n) (cond t (a + suc n) (lowest w a n))
       go true e ih = lower n (lowest w a n) (a + suc n) refl ih (omega zarith)
       go false e ih = no_lower n (lowest w a n) (a + suc n) refl ih (omega zarith)

@@ -33,7 +33,8 @@ find_nth : (t : Node → Bool) (xs : List Node) → find t xs ≡ get_elem? xs (
 find_nth t [] = refl
 find_nth t (x ∷ xs) = go (t x) (find_nth t xs)
   where
-    go : (b : Bool) → find t xs ≡ get_elem? xs (before t xs) → cond b (some x) (find t xs) ≡ get_elem? (x ∷ xs) (cond b zero (suc (before t xs)))
+    go : (b : Bool) → find t xs ≡ get_elem? xs (before t xs)
+        → cond b (some x) (find t xs) ≡ get_elem? (x ∷ xs) (cond b zero (suc (before t xs)))
     go true ih = refl
     go false ih = ih
 
@@ -48,7 +49,9 @@ openings at (false ∷ w) = openings (suc at) w
 openings_append : (at : ℕ) (u v : List Bool) → openings at (u ++ v) ≡ openings at u ++ openings (at + length u) v
 openings_append at [] v = ap (λ n. openings n v) (eq at (at + 0) (omega arith))
 openings_append at (true ∷ u) v = ap (at ∷◌) (openings_append (suc at) u v ∙ ap (λ n. openings (suc at) u ++ openings n v) (eq (suc at + length u) (at + suc (length u)) (omega arith)))
-openings_append at (false ∷ u) v = openings_append (suc at) u v ∙ ap (λ n. openings (suc at) u ++ openings n v) (eq (suc at + length u) (at + suc (length u)) (omega arith))
+openings_append at (false ∷ u) v =
+    openings_append (suc at) u v
+    ∙ ap (λ n. openings (suc at) u ++ openings n v) (eq (suc at + length u) (at + suc (length u)) (omega arith))
 
 abbrev places : List Node → List ℕ
 places [] = []
@@ -128,7 +131,9 @@ module _ (f : Forest) where
     with_rank = (before_rank (encode f) 0 a (table f) (places_nodes f 0 []) o).1 ∙ ap some (eq (0 + a) a (omega arith))
 
     before_at : before (stands_at a) (table f) ≡ rank true (encode f) a
-    before_at = ap (λ n. before (stands_at n) (table f)) (eq a (0 + a) (omega arith)) ∙ (before_rank (encode f) 0 a (table f) (places_nodes f 0 []) o).0
+    before_at =
+        ap (λ n. before (stands_at n) (table f)) (eq a (0 + a) (omega arith))
+        ∙ (before_rank (encode f) 0 a (table f) (places_nodes f 0 []) o).0
 
     pub node_at : At f a
     unfolding with_number
@@ -173,7 +178,8 @@ has_find t (x ∷ xs) (inr h) = go (t x) (has_find t xs h)
 closes_has : (f : Forest) (at : ℕ) (ps : List ℕ) (i : ℕ) → get_or (encode f) i true ≡ false → Has (closes_at (at + i)) (nodes at ps f)
 closes_has empty at ps i e = absurd (true≢false e)
 closes_has (tree k r) at ps zero e = absurd (true≢false e)
-closes_has (tree k r) at ps (suc j) e = go (dec_lt j m) (dec_lt m j) (closes_has k (suc at) (at ∷ ps) j) (closes_has r (suc c) ps (j - suc m))
+closes_has (tree k r) at ps (suc j) e =
+    go (dec_lt j m) (dec_lt m j) (closes_has k (suc at) (at ∷ ps) j) (closes_has r (suc c) ps (j - suc m))
   where
     m : ℕ
     m = length (encode k)

@@ -26,7 +26,8 @@ unfolding parse
 parse_encode f = ap parse (sym (append-nil (encode f))) ∙ ap only (read_encode f [] [] refl)
 
 -- one more bit in front of what has been read
-opened : (t : List Forest) (w : List Bool) (f : Forest) (s : List Forest) → ((g : Forest) (u : List Forest) → t ≡ g ∷ u → w ≡ encode g ++ after u)
+opened : (t : List Forest) (w : List Bool) (f : Forest) (s : List Forest)
+    → ((g : Forest) (u : List Forest) → t ≡ g ∷ u → w ≡ encode g ++ after u)
     → at_opening t ≡ f ∷ s → true ∷ w ≡ encode f ++ after s
 opened [] w f s ih h = cc
 opened (k ∷ []) w f s ih h = cc
@@ -35,7 +36,8 @@ opened (k ∷ (r ∷ u)) w f s ih h =
     let e₂ : s ≡ u = cc in
     rw (e, e₂) (ap (true ∷◌) (ih k (r ∷ u) refl ∙ sym (append_assoc (encode k) (false ∷ encode r) (after u))))
 
-closed : (t : List Forest) (w : List Bool) (f : Forest) (s : List Forest) → ((g : Forest) (u : List Forest) → t ≡ g ∷ u → w ≡ encode g ++ after u)
+closed : (t : List Forest) (w : List Bool) (f : Forest) (s : List Forest)
+    → ((g : Forest) (u : List Forest) → t ≡ g ∷ u → w ≡ encode g ++ after u)
     → at_closing t ≡ f ∷ s → false ∷ w ≡ encode f ++ after s
 closed [] w f s ih h = cc
 closed (g ∷ u) w f s ih h =

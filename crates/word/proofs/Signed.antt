@@ -224,8 +224,3 @@ of_z_eq a b f g e = sym (to_z-of_z f) ∙ ap (to_z w32) e ∙ to_z-of_z g
 
 pub of_z_ne : (a b : ℤ) → (of_z w32 a ≡ of_z w32 b → ⊥) → eq_z a b ≡ false
 of_z_ne a b f = not_true (eq_z a b) (λ e. f (ap (of_z w32) (→eq a b (eq_z→ a b e))))
-
-pub eqb_of_z : {a b : ℤ} → SFits w32 a → SFits w32 b → eqb (of_z w32 a) (of_z w32 b) ≡ eq_z a b
-eqb_of_z {a} {b} f g = by_test (eq_z a b)
-    (λ e. let q : of_z w32 a ≡ of_z w32 b = ap (of_z w32) (→eq a b (eq_z→ a b e)) in rw (e, q) (T_true _ (eqb_refl (of_z w32 b))))
-    (λ e. rw e (not_true _ (λ q. absurd (neq_z→ a b e (eq→ a b (of_z_eq a b f g (eqb→eq (of_z w32 a) (of_z w32 b) (true_T q))))))))

@@ -16,7 +16,8 @@ pub returns-then-ne : goal.returns-then-ne
 returns-then-ne c = same_not _ _ _ _ _ _ _ c.loop-k.invariant (omega arith) c.own-s.ensures c.read.ensures (sym c.ne.ensures ∙ c.if-ne.true)
 
 pub loop-k-preserved : goal.loop-k-preserved
-loop-k-preserved c = same_next _ _ _ _ _ _ _ c.loop-k.invariant (omega arith) c.own-s.ensures c.read.ensures (sym c.ne.ensures ∙ c.if-ne.false)
+loop-k-preserved c =
+    same_next _ _ _ _ _ _ _ c.loop-k.invariant (omega arith) c.own-s.ensures c.read.ensures (sym c.ne.ensures ∙ c.if-ne.false)
 
 pub returns : goal.returns
 returns c = same_all _ _ _ _ _ c.loop-k.invariant (omega arith)

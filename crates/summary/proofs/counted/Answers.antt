@@ -9,4 +9,5 @@ pub returns-then-side-least : goal.returns-then-side-least
 returns-then-side-least c = to_z-of_z c.ranges.count ∙ sym (at_yes c.args.side c.args.least c.args.count (of_z_eq c.args.side c.args.least c.ranges.side c.ranges.least c.if-side-least.true))
 
 pub returns-else-side-least : goal.returns-else-side-least
-returns-else-side-least c = sym (at_no c.args.side c.args.least c.args.count (omega (zarith, of_z_ne c.args.side c.args.least c.if-side-least.false)))
+returns-else-side-least c =
+    sym (at_no c.args.side c.args.least c.args.count (omega (zarith, of_z_ne c.args.side c.args.least c.if-side-least.false)))

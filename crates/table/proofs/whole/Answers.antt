@@ -8,4 +8,5 @@ use Rattle.table.proofs.whole.Goals as goal
 
 pub returns : goal.returns
 unfolding whole_at
-returns c q = rw starts_at (same_test _ _ (λ t. lt-ltb _ _ (omega (arith, leb-true _ _ t)), λ t. le-leb _ _ (omega (arith, ltb-true _ _ t))))
+returns c q =
+    rw starts_at (same_test _ _ (λ t. lt-ltb _ _ (omega (arith, leb-true _ _ t)), λ t. le-leb _ _ (omega (arith, ltb-true _ _ t))))

@@ -3,7 +3,8 @@ use Rattle.std.proofs.Common.{◌-◌, ◌/◌, arith}
 use Rattle.text.proofs.Numbers.{digits_zero, digits_small, digits_more, digits_few}
 use Rattle.text.proofs.Put.{writes_long, writes_append}
 use Rattle.text.proofs.Page.+digits.Goals as goal
-use Rattle.text.proofs.Page.+digits.Goals.{then-k-gt0+then-n-ge10, else-k-gt0, else-k-gt0-via-then-k-gt0+else-n-ge10, else-k-gt0-via-else-k-gt0}
+use Rattle.text.proofs.Page.+digits.Goals.{then-k-gt0+then-n-ge10, else-k-gt0, else-k-gt0-via-then-k-gt0+else-n-ge10}
+use Rattle.text.proofs.Page.+digits.Goals.{else-k-gt0-via-else-k-gt0}
 
 pub byte-requires : goal.byte-requires
 byte-requires t c =
