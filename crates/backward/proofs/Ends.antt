@@ -1,28 +1,19 @@
 -- The two scans of the walk, in the block where it starts and in the leaf that it reaches.
 -- What the scan's result says of a stretch of bits, and so of the word's block.
 use mathlib.Core.Path.{◌≡◌, refl, sym, ap, ◌∙◌}
-use mathlib.Core.Bool.{Bool, cond}
+use mathlib.Core.Bool.{Bool}
 use mathlib.Core.List.{List}
 use mathlib.Core.Option.{Option, none, some}
-use Prim.Native.Nat.{ℕ, suc, ◌+◌, ◌-◌, ◌*◌, ◌/◌, ◌≤◌, ◌<◌, min}
+use Prim.Native.Nat.{ℕ, suc, ◌+◌, ◌-◌, ◌*◌, ◌/◌, ◌<◌, min}
 use native.Mathlib.Omega.{arith}
-use lib.IntN.{ℤ, pos, ◌+ℤ◌, nat_abs}
-use mir.Syntax.{w32, w64}
-use mir.Val.{SFits, of_z}
-use mir.Facts.{to_z-of_z}
-use Rattle.summary.specs.declared.Summary.{Summary}
-use Rattle.summary.proofs.Machine.{rb}
-use Rattle.walk.proofs.Signed64.{wb, widen, more_fits, fits_abs}
-use Rattle.word.specs.Signed.{eq_z}
+use lib.IntN.{ℤ, ◌+ℤ◌}
 use Rattle.word.specs.Bits.{bit, bits, word}
 use Rattle.summary.specs.Stretch.{step, depth_of}
 use Rattle.std.specs.Prelude.{Result, Ok, Err}
 use Rattle.walk.specs.declared.Walk.{Walk}
-use Rattle.walk.specs.Walk.{Reach, hit}
 use Rattle.walk.specs.Scan.{final, behind, scanned, reached}
-use Rattle.walk.specs.Backward.{hit_back, leaf_back, from_start}
+use Rattle.walk.specs.Backward.{leaf_back, from_start}
 use Rattle.backward.specs.Steps.{scan_down}
-use Rattle.walk.proofs.Machine.{zero_bits, other_bits}
 use Rattle.walk.proofs.Stretches.{block_is, behind_is, up_to_is, scanned_met, scanned_left, reached_is}
 use Rattle.backward.proofs.Scan.{one_more}
 
@@ -62,16 +53,3 @@ module _ (bytes : List ℕ) (m p : ℕ) (t u : ℤ) (s : Result ℕ ℤ) (h : p 
   pub near_left : (v : ℤ) → s ≡ Err v → (final (256 * (p / 256)) (behind (word bytes m) p) (from_start (word bytes m) p t) ≡ none)
       × (v ≡ from_start (word bytes m) p t)
   near_left = left bytes _ _ _ u _ s (behind_is bytes m p h) from_start_lem r
-
--- ---- entry 1: the amount wanted, as the machine tests it
-module _ (z : ℤ) (n : ℕ) where
-  pub at_start : of_z w64 z ≡ 0 → SFits w64 z → ◌≡◌ {A = Reach} (some 0, n) (cond (eq_z z (pos 0)) (some 0) none, n)
-  at_start e f = rw (rw (to_z-of_z f) at (zero_bits z _ refl e))
-
-  pub elsewhere : (of_z w64 z ≡ 0 → ⊥) → ◌≡◌ {A = Reach} (none, n) (cond (eq_z z (pos 0)) (some 0) none, n)
-  elsewhere h = rw (other_bits z _ refl h)
-
--- ---- an entry's test, with its total added
-pub tested : (s : Summary) (t r : ℤ) (b : Bool) → SFits w64 t → nat_abs t ≤ 2305843009213693952 → SFits w32 s.total → r ≡ rb s.total
-    → b ≡ hit s (wb (wb t +ℤ wb r)) → b ≡ hit_back s t
-tested s t r b f near g e h = h ∙ rw (to_z-of_z f, e, to_z-of_z g, to_z-of_z (widen g), to_z-of_z (more_fits t s.total near (fits_abs g)))

@@ -33,7 +33,7 @@ fn ends_well(s: Summary, want: i64) -> bool
     requires { nat_abs want ≤ 2305843009213693952 }
     ensures { result ≡ hit_back s want }
 {
-    let u = want + i64::from(s.total);
+    let u = walk::plus(want, s.total);
     walk::holds(s, u)
 }
 
@@ -76,16 +76,13 @@ impl Way for Back {
         let row = lineage.row;
         let b = w.entry - lineage.l;
         let s = scan_down(row.bytes, 256 * b, walk::end_of(row.m, b), w.want);
-        Counted {
-            value: s.ok(),
-            reads: w.reads,
-        }
+        walk::met(s, w.reads)
     }
 
     // "At entry 1 the answer is boundary 0 if t is 0, else none."
     fn top(w: Walk) -> Counted<Option<usize>> {
         Counted {
-            value: if w.want == 0 { Some(0) } else { None },
+            value: if walk::zero(w.want) { Some(0) } else { None },
             reads: w.reads,
         }
     }

@@ -68,10 +68,7 @@ impl Way for Ahead {
         let row = lineage.row;
         let b = w.entry - lineage.l;
         let s = scan(row.bytes, 256 * b, walk::end_of(row.m, b), w.want);
-        Counted {
-            value: s.ok(),
-            reads: w.reads,
-        }
+        walk::met(s, w.reads)
     }
 
     // "At entry 1 there is none."

@@ -4,12 +4,13 @@ use mathlib.Core.Path.{◌≡◌, refl, sym, ap, ◌∙◌}
 use mathlib.Core.Bool.{Bool, true, false}
 use Prim.Native.Nat.{ℕ, ◌≤◌, ◌<◌}
 use lib.IntN.{ℤ, pos, ◌+ℤ◌, ◌-ℤ◌, nat_abs}
+use lib.Dec.{eqb, eqb_refl, eqb→eq}
 use lib.Signed.{mag}
 use mir.Syntax.{w64}
-use mir.Val.{Fits, to_z, of_z}
+use mir.Val.{SFits, Fits, to_z, of_z}
 use mir.Facts.{to_z-of_z, of_z-to_z}
 use Rattle.word.specs.Signed.{eq_z}
-use Rattle.word.proofs.Signed.{zarith, →eq_z, eq_z→, →eq, not_true}
+use Rattle.word.proofs.Signed.{zarith, by_test, →eq_z, eq_z→, →eq, eq→, neq_z→, T_true, true_T, not_true}
 use Rattle.summary.specs.Stretch.{step}
 use Rattle.summary.proofs.Machine.{rb}
 use Rattle.walk.proofs.Amounts.{step_abs}
@@ -21,6 +22,14 @@ back64 z h = to_z-of_z {w = w64} (record { sfits = h })
 
 pub small_back : (z : ℤ) → nat_abs z ≤ 1152921504606846976 → wb z ≡ z
 small_back z h = to_z-of_z (small64 z (omega zarith))
+
+-- `==` compares bits
+pub eqb_of_z64 : {a b : ℤ} → SFits w64 a → SFits w64 b → eqb (of_z w64 a) (of_z w64 b) ≡ eq_z a b
+eqb_of_z64 {a} {b} f g = by_test (eq_z a b)
+    (λ e. let q : of_z w64 a ≡ of_z w64 b = ap (of_z w64) (→eq a b (eq_z→ a b e)) in rw (e, q) (T_true _ (eqb_refl (of_z w64 b))))
+    (λ e. rw e (not_true _
+    (λ q. absurd (neq_z→ a b e
+    (eq→ a b (sym (to_z-of_z f) ∙ ap (to_z w64) (eqb→eq (of_z w64 a) (of_z w64 b) (true_T q)) ∙ to_z-of_z g))))))
 
 -- ---- an amount after one bit: `r` is what the bit b adds, widened to 64 bits
 wide_step : (b : Bool) → wb (rb (step b)) ≡ step b

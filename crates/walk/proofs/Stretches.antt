@@ -10,10 +10,7 @@ use lib.IntN.{ℤ}
 use Rattle.word.specs.Bits.{bits, word}
 use Rattle.word.proofs.Bits.{part_bits}
 use Rattle.index.specs.Shape.{block}
-use Rattle.std.specs.Prelude.{Result, Ok, Err}
-use Rattle.std.specs.Prelude as code
-use Rattle.std.specs.Result.{result_ok}
-use Rattle.walk.specs.Walk.{there}
+use Rattle.std.specs.Prelude.{Ok, Err}
 use Rattle.walk.specs.Scan.{ahead, behind, up_to, scanned, reached}
 
 module _ (bytes : List ℕ) (m : ℕ) where
@@ -47,11 +44,3 @@ scanned_left (some p) u v e = let z : ◌≡◌ {A = ℕ} 0 1 = cc in absurd (om
 pub reached_is : (o : Option ℕ) (u : ℤ) → reached (scanned o u) ≡ o
 reached_is none u = refl
 reached_is (some q) u = refl
-
--- what `ok` keeps of a scan
-pub ok_reached : (s : Result ℕ ℤ) {o : code.Option ℕ} → o ≡ result_ok s → there o ≡ reached s
-ok_reached s e = rw e (kept s)
-  where
-    kept : (s : Result ℕ ℤ) → there (result_ok s) ≡ reached s
-    kept (Ok q) = refl
-    kept (Err t) = refl

@@ -8,7 +8,8 @@ ghost use Rattle.std.specs.Int.Signed.{le_z};
 ghost use Rattle.word.specs.Signed.{eq_z};
 ghost use Rattle.summary.specs.Join.{empty_of};
 ghost use Rattle.index.specs.Lent.{entry_at};
-ghost use Rattle.walk.specs.Walk.{walk, seen, hit};
+ghost use Rattle.walk.specs.Walk.{said, walk, seen, hit};
+ghost use Rattle.walk.specs.Scan.{reached};
 ghost use Rattle.walk.specs.Beside.{after_of, before_of};
 
 pub use lineage::Lineage;
@@ -56,12 +57,11 @@ pub fn read(index: &[i32], k: usize, reads: u32) -> Counted<Summary>
 
 // Where the rule reads no entry: nothing was seen. The empty summary stands for it, and no `Option`, since joining it and adding its total
 // change nothing.
-#[tactic(auto, unfolding(summary::specs::Join::empty_of))]
 fn unread(reads: u32) -> Counted<Summary>
     ensures { result ≡ seen empty_of reads }
 {
     Counted {
-        value: Summary::EMPTY,
+        value: summary::empty(),
         reads,
     }
 }
@@ -90,6 +90,35 @@ pub fn before(index: &[i32], k: usize, reads: u32) -> Counted<Summary>
     } else {
         unread(reads)
     }
+}
+
+// An entry's number beside an amount wanted, which has more bits.
+pub fn wide(x: i32) -> i64
+    ensures { result ≡ x }
+{
+    i64::from(x)
+}
+
+pub fn zero(x: i64) -> bool
+    ensures { result ≡ eq_z x (pos 0) }
+{
+    x == 0
+}
+
+// The amount wanted, less a total.
+pub fn minus(want: i64, total: i32) -> i64
+    requires { nat_abs want ≤ 2305843009213693952 }
+    ensures { result ≡ want -ℤ total }
+{
+    want - wide(total)
+}
+
+// The amount wanted, and a total more.
+pub fn plus(want: i64, total: i32) -> i64
+    requires { nat_abs want ≤ 2305843009213693952 }
+    ensures { result ≡ want +ℤ total }
+{
+    want + wide(total)
 }
 
 // "if its count isn't 0 and least ≤ t ≤ greatest"
@@ -122,7 +151,7 @@ impl Walk {
     {
         Walk {
             entry: k,
-            want: self.want - i64::from(seen.value.total),
+            want: minus(self.want, seen.value.total),
             reads: seen.reads,
         }
     }
@@ -134,9 +163,19 @@ impl Walk {
     {
         Walk {
             entry: k,
-            want: self.want + i64::from(seen.value.total),
+            want: plus(self.want, seen.value.total),
             reads: seen.reads,
         }
+    }
+}
+
+// What a scan met, if anything, and the reads.
+pub fn met(scanned: Result<usize, i64>, reads: u32) -> Counted<Option<usize>>
+    ensures { said result ≡ (reached scanned, reads) }
+{
+    Counted {
+        value: scanned.ok(),
+        reads,
     }
 }
 

@@ -1,11 +1,10 @@
 -- `leaf` meets its contract.
+use mathlib.Core.Path.{◌∙◌}
 use Rattle.walk.proofs.Machine.{small_back}
-use Rattle.walk.proofs.Stretches.{ok_reached}
 use Rattle.backward.proofs.Ends.{leaf_is}
 use Rattle.backward.proofs.BackWay.leaf.Goals as goal
 
 pub returns : goal.returns
 returns c = let a = c.args in let row = a.lineage.now.row in
-    rw (ok_reached c.scan_down-s.result c.ok.ensures.value)
-    (leaf_is row.bytes.now row.m a.lineage.now.l a.w c.end_of.result c.scan_down-s.result c.end_of.ensures
-    (rw (small_back a.w.want c.requires.2) at c.scan_down-s.ensures))
+    c.met.ensures ∙ leaf_is row.bytes.now row.m a.lineage.now.l a.w c.end_of.result c.scan_down-s.result c.end_of.ensures
+    (rw (small_back a.w.want c.requires.2) at c.scan_down-s.ensures)
