@@ -7,7 +7,7 @@ use native.Mathlib.Nat.{pow-le-pow_right}
 use native.Mathlib.Omega.{arith}
 use lib.IntN.{ℤ}
 use lib.ListN.{length, take}
-use lib.Seq.{sets}
+use lib.Seq.{sets, length-sets}
 use Rattle.std.specs.Prelude.{Ok, Err}
 use Rattle.word.specs.Bits.{word, bytes_of}
 use Rattle.word.specs.Parse.{is_balanced}
@@ -27,7 +27,6 @@ use Rattle.batch.proofs.Settled.{built_accepted}
 use Rattle.fill.proofs.Fill.{sets_front}
 use Rattle.text.specs.Text.{Put, lines}
 use Rattle.run.specs.Output.{answered}
-use Rattle.run.specs.Replied.{Replied}
 
 -- 65,536 bits have 256 leaves at most
 pub numbers_few : (m : ℕ) → m ≤ 65536 → numbers_of m ≤ 2048
@@ -51,31 +50,41 @@ module _ (bytes : List ℕ) (m : ℕ) where
         go true y = absurd (never_0 r (ap (λ (o : Outcome). o.code) (rw y at is)))
         go false y = (refl, ap (λ (o : Outcome). o.code) (rw y at is))
 
-    -- the batch takes the index that was built
-    pub ends_answered : (n : ℕ) → Built bytes m held (outcome (Ok n)) idx → (q lent : List ℕ) → length q % 3 ≡ 0
-        → length q ≤ length lent → (r : Outcome) (left : List ℕ) → Batched bytes m idx q lent r left
-        → Replied bytes m q lent r left
-    unfolding built_outcome batch_outcome batch_answers
-    ends_answered n built q lent threes room r left b =
-        let ok : refusal bytes m (length held) ≡ 0 =
-        sym (ap (λ (o : Outcome). o.code) built.outcome_is ∙ code_of (refusal bytes m (length held)) _) in
-        let none : batch_refusal bytes m idx (length q) (length lent) ≡ 0 =
-        rw built.index_is (built_accepted bytes m (length q) (length lent) threes room held ok) in
-        let y = (accepted bytes m held ok).1 in
-        record { outcome_is = rw y (rw none at b.outcome_is); answers_are = rw y (rw none at b.answers_are) }
+    -- the batch takes the index that was built: it refuses nothing, and the answers printed are those of the questions
+    module _ (n : ℕ) (built : Built bytes m held (outcome (Ok n)) idx) (q lent : List ℕ) (threes : length q % 3 ≡ 0)
+        (room : length q ≤ length lent) (left : List ℕ) where
+      balanced : is_balanced (word bytes m) ≡ true
+      unfolding built_outcome
+      balanced = (accepted bytes m held (sym (ap (λ (o : Outcome). o.code) built.outcome_is ∙ code_of (refusal bytes m (length held)) _))).1
 
-  -- the answers printed are those of the questions
-  pub ends_lines : (q lent left : List ℕ) → length q % 3 ≡ 0 → length q ≤ length lent → (n : ℕ)
-      → Replied bytes m q lent (outcome (Ok n)) left
-      → (out : List ℕ) (e : ℕ) (after : List ℕ) → Put (lines (take (3 * n) left)) out 0 e after → Put (answered bytes m q) out 0 e after
-  ends_lines q lent left threes room n p out e after put = go (is_balanced (word bytes m)) refl
-    where
-      go : (b : Bool) → is_balanced (word bytes m) ≡ b → Put (answered bytes m q) out 0 e after
-      go true y =
-          let k : n ≡ length q / 3 = ap (λ (o : Outcome). o.value) (rw y at p.outcome_is) in
-          let l : left ≡ sets lent 0 (answers_of bytes m q) = rw y at p.answers_are in
-          let long = answers_long bytes m q threes in
-          let f : take (3 * n) left ≡ answers_of bytes m q =
-          ap (take (3 * n)) l ∙ sets_front lent (answers_of bytes m q) (3 * n) (omega (arith, k, long)) (omega (arith, long)) in
-          rw y (rw f at put)
-      go false y = let z : outcome (Ok n) ≡ outcome_of 6 (length q / 3) = rw y at p.outcome_is in absurd (omega (arith, ap (λ (o : Outcome). o.code) z))
+      none : batch_refusal bytes m idx (length q) (length lent) ≡ 0
+      unfolding built_outcome
+      none =
+          rw built.index_is (built_accepted bytes m (length q) (length lent) threes room held
+          (sym (ap (λ (o : Outcome). o.code) built.outcome_is ∙ code_of (refusal bytes m (length held)) _)))
+
+      told : (r : Outcome) → Batched bytes m idx q lent r left → r ≡ record { code = 0; value = length q / 3 }
+      unfolding batch_outcome
+      told r b = rw none at b.outcome_is
+
+      pub never_refused : (r : Refusal) → Batched bytes m idx q lent (outcome (Err r)) left → ⊥
+      never_refused r b = never_0 r (ap (λ (o : Outcome). o.code) (told (outcome (Err r)) b))
+
+      module _ (k : ℕ) (b : Batched bytes m idx q lent (outcome (Ok k)) left) where
+        pub asked : k ≡ length q / 3
+        asked = ap (λ (o : Outcome). o.value) (told (outcome (Ok k)) b)
+
+        left_is : left ≡ sets lent 0 (answers_of bytes m q)
+        unfolding batch_answers
+        left_is = rw none at b.answers_are
+
+        pub few_answers : 3 * k ≤ length left
+        few_answers = omega (arith, asked, ap length left_is, length-sets lent 0 (answers_of bytes m q))
+
+        pub ends_lines : (out : List ℕ) (e : ℕ) (after : List ℕ) → Put (lines (take (3 * k) left)) out 0 e after
+            → Put (answered bytes m q) out 0 e after
+        ends_lines out e after put =
+            let long = answers_long bytes m q threes in
+            let f : take (3 * k) left ≡ answers_of bytes m q =
+            ap (take (3 * k)) left_is ∙ sets_front lent (answers_of bytes m q) (3 * k) (omega (arith, asked, long)) (omega (arith, long)) in
+            rw balanced (rw f at put)

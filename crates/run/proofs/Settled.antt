@@ -10,10 +10,12 @@ use lib.ListN.{length}
 use lib.Seq.{sets, length-sets}
 use Rattle.word.specs.Bits.{word}
 use Rattle.word.specs.Parse.{is_balanced}
+use Rattle.word.specs.Settles.{Settles}
+use Rattle.word.proofs.Settled.{by_equation}
 use Rattle.std.specs.Prelude.{Result}
 use Rattle.run.specs.declared.no_room.NoRoom.{NoRoom}
 use Rattle.judge.specs.declared.Outcome.{Outcome}
-use Rattle.run.specs.RanAs.{ran_as}
+use Rattle.run.specs.RanAs.{number_of, ran_as}
 use Rattle.judge.specs.Judge.{outcome_of}
 use Rattle.batch.specs.Batch.{answers_of}
 use Rattle.batch.proofs.Answers.{answers_long}
@@ -41,6 +43,13 @@ ran_apart (Err x) (Err y) e = refl
 pub settled : (file held : List ℕ) (r r' : Result ℕ NoRoom) (left left' : List ℕ) → Ran file held (ran_as r) left
     → Ran file held (ran_as r') left' → (r ≡ r') × (left ≡ left')
 settled file held r r' left left' p q = let s = outcome_settled file held (ran_as r) (ran_as r') left left' p q in (ran_apart r r' s.0, s.1)
+
+-- the number of the one refusal, and what is told of it
+pub number_settled : (refused : NoRoom) → Settles {A = ℕ} (λ n. n ≡ number_of refused)
+number_settled refused = by_equation (number_of refused)
+
+pub from_settled : (refused : NoRoom) → Settles {A = Outcome} (λ o. o ≡ ran_as (Err refused))
+from_settled refused = by_equation (ran_as (Err refused))
 
 -- the two ways it ends
 pub ends_short : (file held : List ℕ) → length held < 33792 → Ran file held (record { code = 36; value = 0 }) held

@@ -3,6 +3,10 @@ use Rattle.std.specs.Prelude.{ℕ, Result, Ok, Err}
 use Rattle.judge.specs.declared.Outcome.{Outcome}
 use Rattle.run.specs.declared.no_room.NoRoom.{NoRoom}
 
+-- the number of the one refusal
+abbrev pub number_of : NoRoom → ℕ
+number_of refused = 36
+
 abbrev pub ran_as : Result ℕ NoRoom → Outcome
 ran_as (Ok n) = record { code = 0; value = n }
-ran_as (Err e) = record { code = 36; value = 0 }
+ran_as (Err e) = record { code = number_of e; value = 0 }

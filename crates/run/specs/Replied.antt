@@ -1,17 +1,17 @@
--- What asking a sound file's questions gives, over an index that is built for it.
-use Rattle.std.specs.Prelude.{◌≡◌, cond, List, ℕ, ◌/◌, length}
-use Rattle.std.proofs.lemmas.List.Edits.{sets}
+-- What asking a sound file's questions gives: a line for each answer, over an index that is built for it, or the row's refusal.
+use Rattle.std.specs.Prelude.{◌≡◌, false, List, ℕ, Result, MatchResult}
 use Rattle.word.specs.Bits.{word}
 use Rattle.word.specs.Parse.{is_balanced}
-use Rattle.judge.specs.declared.Outcome.{Outcome}
-use Rattle.judge.specs.Judge.{outcome_of, written}
-use Rattle.batch.specs.Batch.{answers_of}
+use Rattle.judge.specs.declared.refusal.Refusal.{Refusal}
+use Rattle.judge.specs.Refusal.{number_of}
+use Rattle.text.specs.Text.{Put}
+use Rattle.run.specs.Output.{answered}
 
--- 6 is all that is left to refuse
-abbrev pub word_refused : List ℕ → ℕ → ℕ
-word_refused bytes m = cond (is_balanced (word bytes m)) 0 6
+-- 6 is all that is left to refuse, and then nothing is written
+abbrev pub Unasked : List ℕ → ℕ → List ℕ → List ℕ → Refusal → Type 0
+Unasked bytes m held left r = (is_balanced (word bytes m) ≡ false) × ((number_of r ≡ 6) × (left ≡ held))
 
 -- the promise of `ask`
-pub record Replied (bytes : List ℕ) (m : ℕ) (numbers held : List ℕ) (r : Outcome) (left : List ℕ) : Type 0 where
-  pub outcome_is : r ≡ outcome_of (word_refused bytes m) (length numbers / 3)
-  pub answers_are : left ≡ written (word_refused bytes m) (sets held 0 (answers_of bytes m numbers)) held
+abbrev pub Replied : List ℕ → ℕ → List ℕ → List ℕ → Result ℕ Refusal → List ℕ → Type 0
+Replied bytes m numbers held r left =
+    MatchResult r (λ end. Put (answered bytes m numbers) held 0 end left) (Unasked bytes m held left)

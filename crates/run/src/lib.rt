@@ -16,15 +16,17 @@ pub use no_room::NoRoom;
 
 mod no_room;
 
-// The answers of a sound file's questions, over the front of `answers`, from an index built here. Bytes and m are handed on as the calls
-// take them.
-fn ask(bytes: &[u8], m: u32, numbers: &[u32], answers: &mut [u32]) -> Result<usize, Refusal>
-    requires { (m ≤ 65536) × (bytes_of m ≤ length bytes.now) × (length numbers.now % 3 ≡ 0) × (length numbers.now ≤ length answers.old) }
-    ensures { Replied bytes.now m numbers.now answers.old (outcome result) answers.new }
+// A sound file's questions asked over an index built here, and a line for each answer; or the row's refusal. The room for the answers is made
+// once the row has been judged. Bytes and m are handed on as the calls take them.
+fn ask(bytes: &[u8], m: u32, numbers: &[u32], out: &mut [u8]) -> Result<usize, Refusal>
+    requires { Sound bytes.now m numbers.now out.old }
+    ensures { Replied bytes.now m numbers.now out.old result out.new }
 {
     let mut index = [0i32; 2048];
     build::build(bytes, m, &mut index)?;
-    batch::batch(bytes, m, &index, numbers, answers)
+    let mut answers = [0u32; 3072];
+    let n = batch::batch(bytes, m, &index, numbers, &mut answers)?;
+    Ok(text::put_lines(&answers[..3 * n], out))
 }
 
 // A file's word and questions, once the file is sound: a line for each answer, or the word's refusal.
@@ -32,9 +34,8 @@ fn answer(bytes: &[u8], m: u32, numbers: &[u32], out: &mut [u8]) -> usize
     requires { Sound bytes.now m numbers.now out.old }
     ensures { Put (answered bytes.now m numbers.now) out.old 0 result out.new }
 {
-    let mut answers = [0u32; 3072];
-    match ask(bytes, m, numbers, &mut answers) {
-        Ok(n) => text::put_lines(&answers[..3 * n], out),
+    match ask(bytes, m, numbers, out) {
+        Ok(end) => end,
         Err(refusal) => text::put_refusal(u32::from(refusal), out),
     }
 }
