@@ -5,6 +5,30 @@ ghost use Rattle.std.specs.Prelude.{◌≡◌, ◌∷◌, [], ◌+◌, ◌*◌, 
 ghost use Rattle.text.specs.Text.{Put, digits, number, line, lines, refusal};
 ghost use Rattle.text.specs.Page.{Writes};
 
+fn put_byte(b: u8, out: &mut [u8], at: usize) -> usize
+    requires { at < length out.old }
+    ensures { Put (b ∷ []) out.old at result out.new }
+{
+    out[at] = b;
+    at + 1
+}
+
+// The digits of n over `out` from place `at` on, and the place past them. Those before the last are those of n / 10, so the most significant
+// one is written first. The place is handed on as a value: kept on the page, each digit would wait until the one before it had stored it.
+// std's text of a number would come in a buffer of its own, to be copied here, and by a rule of its own, to be shown the same as document
+// 01's.
+fn put_digits(n: u32, k: usize, out: &mut [u8], at: usize) -> usize
+    requires { at + k + 1 ≤ length out.old }
+    ensures { Put (digits k n) out.old at result out.new }
+{
+    let last = b'0' + (n % 10) as u8;
+    if k == 0 || n < 10 {
+        return put_byte(last, out, at);
+    }
+    let to = put_digits(n / 10, k - 1, out, at);
+    put_byte(last, out, to)
+}
+
 // The bytes that are written over, and the place of the next.
 #[derive(Drop)]
 struct Page<'a> {
@@ -13,32 +37,12 @@ struct Page<'a> {
 }
 
 impl Page<'_> {
-    fn byte(&mut self, b: u8)
-        requires { self.old.at < length self.old.out.now }
-        ensures { Writes (b ∷ []) self.old self.new }
-    {
-        self.out[self.at] = b;
-        self.at += 1;
-    }
-
-    // The digits before the last are those of n / 10, so the most significant one is written first. std's text of a number would come in
-    // a buffer of its own, to be copied here, and by a rule of its own, to be shown the same as document 01's.
-    fn digits(&mut self, n: u32, k: usize)
-        requires { self.old.at + k + 1 ≤ length self.old.out.now }
-        ensures { Writes (digits k n) self.old self.new }
-    {
-        if k > 0 && n >= 10 {
-            self.digits(n / 10, k - 1);
-        }
-        self.byte(b'0' + (n % 10) as u8);
-    }
-
     fn number(&mut self, n: u32, after: u8)
         requires { self.old.at + 11 ≤ length self.old.out.now }
         ensures { Writes (number n after) self.old self.new }
     {
-        self.digits(n, 9);
-        self.byte(after);
+        let to = put_digits(n, 9, self.out, self.at);
+        self.at = put_byte(after, self.out, to);
     }
 
     // Code, result and reads are the numbers of a batch's slice, as C is given them.
