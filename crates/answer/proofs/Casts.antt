@@ -1,11 +1,10 @@
 -- A signed number that is not negative, cast to an unsigned one. Assumes nothing.
-use mathlib.Core.Path.{◌≡◌, sym, ap, ◌∙◌}
-use mathlib.Core.Bool.{Bool}
+use mathlib.Core.Path.{◌≡◌}
 use Prim.Native.Nat.{ℕ, ◌≤◌, ◌<◌}
 use native.Mathlib.Omega.{arith}
 use lib.Dec.{T}
 use lib.IntN.{ℤ, pos, neg_ℤ, nat_abs, ◌-ℤ◌}
-use lib.Signed.{le_z, ◌≤ℤ◌, non_neg}
+use lib.Signed.{◌≤ℤ◌, non_neg}
 use mir.Syntax.{w32, w64}
 use mir.Val.{Fits, to_z, of_z}
 use mir.Facts.{to_z-of_z}
@@ -39,7 +38,3 @@ back_32 x h = to_z-of_z (small x (omega arith))
 -- so is one that a step made of a small number
 pub through : {x y : ℤ} → nat_abs y ≤ 8589934592 → x ≡ y → to_z w64 (of_z w64 x) ≡ y
 through {x} {y} h e = rw e (back_64 y h)
-
--- a test of a number read back tells of the number
-pub decided : (k : ℤ) {x y : ℤ} {b t : Bool} → x ≡ y → b ≡ le_z k x → b ≡ t → le_z k y ≡ t
-decided k z e d = ap (le_z k) (sym z) ∙ sym e ∙ d

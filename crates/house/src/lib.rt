@@ -19,7 +19,7 @@ mod tag;
 
 // How far the fields before have come: to none, to where the word may go on, or to a question.
 #[derive(Clone, Copy, PartialEq, Eq)]
-enum Stage {
+pub enum Stage {
     First,
     Bytes,
     Questions,
@@ -28,18 +28,18 @@ enum Stage {
 // What the fields before the place `at` have told. `m` is 0 before the first, and no Option, since past it each field would unwrap it.
 // The bounds of `at` and `bytes` are clauses of the functions below: a struct with a ghost field cannot be written with `..self`.
 #[derive(Clone, Copy)]
-struct State {
-    at: usize,
-    stage: Stage,
-    m: u32,
-    bytes: usize,
-    asked: usize,
+pub struct State {
+    pub at: usize,
+    pub stage: Stage,
+    pub m: u32,
+    pub bytes: usize,
+    pub asked: usize,
 }
 
 // A field with no fault. "A field's bytes are handed on as that part of the input, uncopied": the next stretch of word bytes, or a
 // question's twelve.
 #[derive(Clone, Copy)]
-enum Field<'a> {
+pub enum Field<'a> {
     Size(u32),
     Word(&'a [u8]),
     Question(&'a [u8]),
@@ -211,16 +211,15 @@ fn field_at(file: &[u8], s: State) -> Result<Field<'_>, Fault>
     }
 }
 
-// A question's value: its three numbers, over `numbers` from place `to` on.
+// A question's value: its three numbers, over `numbers` from place `to` on. Three stores: by `fill::copy` reading a question took half as
+// long again.
 fn put_three(value: &[u8], numbers: &mut [u32], to: usize)
     requires { (length value.now ≡ 12) × (to + 3 ≤ length numbers.old) }
     ensures { numbers.new ≡ sets numbers.old to (three_of value.now) }
 {
-    fill::copy(
-        &[four_at(value, 0), four_at(value, 4), four_at(value, 8)],
-        numbers,
-        to,
-    );
+    numbers[to] = four_at(value, 0);
+    numbers[to + 1] = four_at(value, 4);
+    numbers[to + 2] = four_at(value, 8);
 }
 
 fn ending(s: State) -> Result<House, Fault>

@@ -15,12 +15,12 @@ use walk::{Counted, Lineage};
 
 // The climb's state: the entries k and r, between which nothing is joined yet, what is joined on either side, and the reads.
 #[derive(Clone, Copy)]
-struct Span {
-    k: usize,
-    r: usize,
-    left: Summary,
-    right: Summary,
-    reads: u32,
+pub struct Span {
+    pub k: usize,
+    pub r: usize,
+    pub left: Summary,
+    pub right: Summary,
+    pub reads: u32,
 }
 
 impl Span {

@@ -16,12 +16,12 @@ use walk::{Counted, Lineage};
 
 // The state of the way down: the entry, the first block that it stands over and how many, the number sought from there, and the reads.
 #[derive(Clone, Copy)]
-struct Sink {
-    entry: usize,
-    block: usize,
-    width: usize,
-    number: usize,
-    reads: u32,
+pub struct Sink {
+    pub entry: usize,
+    pub block: usize,
+    pub width: usize,
+    pub number: usize,
+    pub reads: u32,
 }
 
 // The bits of `width` blocks from block `block` on; "cut at m".
