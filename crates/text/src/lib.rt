@@ -14,15 +14,18 @@ fn put_byte(b: u8, out: &mut [u8], at: usize) -> usize
 }
 
 // The digits of n over `out` from place `at` on, and the place past them. Those before the last are those of n / 10, so the most significant
-// one is written first. The place is handed on as a value: kept on the page, each digit would wait until the one before it had stored it.
-// std's text of a number would come in a buffer of its own, to be copied here, and by a rule of its own, to be shown the same as document
-// 01's.
+// one is written first. The place is handed on as a value, and a page's methods are inlined: kept in memory, each digit would wait until
+// the one before it had stored it. The tests are two branches, each foreseen by itself; joined by `||` they take a sixth longer. std's text
+// of a number would come in a buffer of its own, to be copied here, and by a rule of its own, to be shown the same as document 01's.
 fn put_digits(n: u32, k: usize, out: &mut [u8], at: usize) -> usize
     requires { at + k + 1 ≤ length out.old }
     ensures { Put (digits k n) out.old at result out.new }
 {
     let last = b'0' + (n % 10) as u8;
-    if k == 0 || n < 10 {
+    if k == 0 {
+        return put_byte(last, out, at);
+    }
+    if n < 10 {
         return put_byte(last, out, at);
     }
     let to = put_digits(n / 10, k - 1, out, at);
@@ -37,6 +40,7 @@ struct Page<'a> {
 }
 
 impl Page<'_> {
+    #[inline(always)]
     fn number(&mut self, n: u32, after: u8)
         requires { self.old.at + 11 ≤ length self.old.out.now }
         ensures { Writes (number n after) self.old self.new }
@@ -46,6 +50,7 @@ impl Page<'_> {
     }
 
     // Code, result and reads are the numbers of a batch's slice, as C is given them.
+    #[inline(always)]
     fn line(&mut self, code: u32, res: u32, reads: u32)
         requires { self.old.at + 33 ≤ length self.old.out.now }
         ensures { Writes (line code res reads) self.old self.new }
