@@ -5,8 +5,8 @@ use mathlib.Core.List.{List}
 use Prim.Native.Nat.{ℕ, ◌*◌, ◌/◌, ◌%◌, ◌^◌, ◌≤◌}
 use native.Mathlib.Nat.{pow-le-pow_right}
 use native.Mathlib.Omega.{arith}
-use lib.IntN.{ℤ}
-use lib.ListN.{length, take}
+use lib.IntN.{ℤ, pos}
+use lib.ListN.{length, take, replicate, length-replicate}
 use lib.Seq.{sets, length-sets}
 use Rattle.std.specs.Prelude.{Ok, Err}
 use Rattle.word.specs.Bits.{word, bytes_of}
@@ -27,6 +27,7 @@ use Rattle.batch.proofs.Settled.{built_accepted}
 use Rattle.fill.proofs.Fill.{sets_front}
 use Rattle.text.specs.Text.{Put, lines}
 use Rattle.run.specs.Output.{answered}
+use Rattle.run.specs.Sound.{Sound}
 
 -- 65,536 bits have 256 leaves at most
 pub numbers_few : (m : ℕ) → m ≤ 65536 → numbers_of m ≤ 2048
@@ -34,57 +35,71 @@ numbers_few m h =
     let l : 2 ^ height m ≤ 256 = pow-le-pow_right (omega arith) (height_least m 8 (omega arith)) in
     omega (arith, numbers_are m)
 
-module _ (bytes : List ℕ) (m : ℕ) where
-  module _ (small : m ≤ 65536) (enough : bytes_of m ≤ length bytes) (held idx : List ℤ) (long : length held ≡ 2048) where
-    -- 6 is all that building can refuse here
-    pub six : (r : Refusal) → Built bytes m held (outcome (Err r)) idx → (is_balanced (word bytes m) ≡ false) × (number_of r ≡ 6)
+-- the index and the answers before they are built and asked
+abbrev index : List ℤ
+index = replicate 2048 (pos 0)
+
+abbrev answers : List ℕ
+answers = replicate 3072 0
+
+module _ (bytes : List ℕ) (m : ℕ) (q out : List ℕ) (s : Sound bytes m q out) (idx : List ℤ) where
+  long : length index ≡ 2048
+  long = length-replicate 2048 (pos 0)
+
+  room : length q ≤ length answers
+  room = omega (arith, s.few, length-replicate {A = ℕ} 3072 0)
+
+  -- 6 is all that building can refuse here
+  pub six : (r : Refusal) → Built bytes m index (outcome (Err r)) idx → (is_balanced (word bytes m) ≡ false) × (number_of r ≡ 6)
+  unfolding built_outcome
+  six r built = go (is_balanced (word bytes m)) refl
+    where
+      is : outcome (Err r) ≡ outcome_of (cond (not (is_balanced (word bytes m))) 6 0) (m / 2)
+      is =
+          built.outcome_is
+          ∙ ap (λ n. outcome_of n (m / 2))
+          (judging bytes m (length index) (omega (arith, s.small)) s.enough (omega (arith, long, numbers_few m s.small)))
+
+      go : (b : Bool) → is_balanced (word bytes m) ≡ b → (b ≡ false) × (number_of r ≡ 6)
+      go true y = absurd (never_0 r (ap (λ (o : Outcome). o.code) (rw y at is)))
+      go false y = (refl, ap (λ (o : Outcome). o.code) (rw y at is))
+
+  -- the batch takes the index that was built: it refuses nothing, and the answers printed are those of the questions
+  module _ (n : ℕ) (built : Built bytes m index (outcome (Ok n)) idx) (left : List ℕ) where
+    taken : refusal bytes m (length index) ≡ 0
     unfolding built_outcome
-    six r built = go (is_balanced (word bytes m)) refl
-      where
-        is : outcome (Err r) ≡ outcome_of (cond (not (is_balanced (word bytes m))) 6 0) (m / 2)
-        is =
-            built.outcome_is
-            ∙ ap (λ n. outcome_of n (m / 2)) (judging bytes m (length held) (omega arith) enough (omega (arith, numbers_few m small)))
+    taken = sym (ap (λ (o : Outcome). o.code) built.outcome_is ∙ code_of (refusal bytes m (length index)) _)
 
-        go : (b : Bool) → is_balanced (word bytes m) ≡ b → (b ≡ false) × (number_of r ≡ 6)
-        go true y = absurd (never_0 r (ap (λ (o : Outcome). o.code) (rw y at is)))
-        go false y = (refl, ap (λ (o : Outcome). o.code) (rw y at is))
+    none : batch_refusal bytes m idx (length q) (length answers) ≡ 0
+    unfolding built_outcome
+    none = rw built.index_is (built_accepted bytes m (length q) (length answers) s.threes room index taken)
 
-    -- the batch takes the index that was built: it refuses nothing, and the answers printed are those of the questions
-    module _ (n : ℕ) (built : Built bytes m held (outcome (Ok n)) idx) (q lent : List ℕ) (threes : length q % 3 ≡ 0)
-        (room : length q ≤ length lent) (left : List ℕ) where
-      balanced : is_balanced (word bytes m) ≡ true
-      unfolding built_outcome
-      balanced = (accepted bytes m held (sym (ap (λ (o : Outcome). o.code) built.outcome_is ∙ code_of (refusal bytes m (length held)) _))).1
+    told : (r : Outcome) → Batched bytes m idx q answers r left → r ≡ record { code = 0; value = length q / 3 }
+    unfolding batch_outcome
+    told r b = rw none at b.outcome_is
 
-      none : batch_refusal bytes m idx (length q) (length lent) ≡ 0
-      unfolding built_outcome
-      none =
-          rw built.index_is (built_accepted bytes m (length q) (length lent) threes room held
-          (sym (ap (λ (o : Outcome). o.code) built.outcome_is ∙ code_of (refusal bytes m (length held)) _)))
+    pub never_refused : (r : Refusal) → Batched bytes m idx q answers (outcome (Err r)) left → ⊥
+    never_refused r b = never_0 r (ap (λ (o : Outcome). o.code) (told (outcome (Err r)) b))
 
-      told : (r : Outcome) → Batched bytes m idx q lent r left → r ≡ record { code = 0; value = length q / 3 }
-      unfolding batch_outcome
-      told r b = rw none at b.outcome_is
+    module _ (k : ℕ) (b : Batched bytes m idx q answers (outcome (Ok k)) left) where
+      asked : k ≡ length q / 3
+      asked = ap (λ (o : Outcome). o.value) (told (outcome (Ok k)) b)
 
-      pub never_refused : (r : Refusal) → Batched bytes m idx q lent (outcome (Err r)) left → ⊥
-      never_refused r b = never_0 r (ap (λ (o : Outcome). o.code) (told (outcome (Err r)) b))
+      pub few_asked : k ≤ 1024
+      few_asked = omega (arith, asked, s.few)
 
-      module _ (k : ℕ) (b : Batched bytes m idx q lent (outcome (Ok k)) left) where
-        pub asked : k ≡ length q / 3
-        asked = ap (λ (o : Outcome). o.value) (told (outcome (Ok k)) b)
+      left_is : left ≡ sets answers 0 (answers_of bytes m q)
+      unfolding batch_answers
+      left_is = rw none at b.answers_are
 
-        left_is : left ≡ sets lent 0 (answers_of bytes m q)
-        unfolding batch_answers
-        left_is = rw none at b.answers_are
+      pub few_answers : 3 * k ≤ length left
+      few_answers = omega (arith, asked, room, ap length left_is, length-sets answers 0 (answers_of bytes m q))
 
-        pub few_answers : 3 * k ≤ length left
-        few_answers = omega (arith, asked, ap length left_is, length-sets lent 0 (answers_of bytes m q))
-
-        pub ends_lines : (out : List ℕ) (e : ℕ) (after : List ℕ) → Put (lines (take (3 * k) left)) out 0 e after
-            → Put (answered bytes m q) out 0 e after
-        ends_lines out e after put =
-            let long = answers_long bytes m q threes in
-            let f : take (3 * k) left ≡ answers_of bytes m q =
-            ap (take (3 * k)) left_is ∙ sets_front lent (answers_of bytes m q) (3 * k) (omega (arith, asked, long)) (omega (arith, long)) in
-            rw balanced (rw f at put)
+      pub ends_lines : (held : List ℕ) (e : ℕ) (after : List ℕ) → Put (lines (take (3 * k) left)) held 0 e after
+          → Put (answered bytes m q) held 0 e after
+      ends_lines held e after put =
+          let many = answers_long bytes m q s.threes in
+          let f : take (3 * k) left ≡ answers_of bytes m q =
+          ap (take (3 * k)) left_is
+          ∙ sets_front answers (answers_of bytes m q) (3 * k) (omega (arith, asked, s.threes, many)) (omega (arith, room, many)) in
+          rw (accepted bytes m index taken).1 (rw f at put)

@@ -16,8 +16,8 @@ pub use no_room::NoRoom;
 
 mod no_room;
 
-// A sound file's questions asked over an index built here, and a line for each answer; or the row's refusal. The room for the answers is made
-// once the row has been judged. Bytes and m are handed on as the calls take them.
+// A sound file's questions asked over an index built here, and a line for each answer; or the row's refusal. The room for the answers is
+// made once the row has been judged. Bytes and m are handed on as the calls take them.
 fn ask(bytes: &[u8], m: u32, numbers: &[u32], out: &mut [u8]) -> Result<usize, Refusal>
     requires { Sound bytes.now m numbers.now out.old }
     ensures { Replied bytes.now m numbers.now out.old result out.new }

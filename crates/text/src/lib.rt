@@ -13,10 +13,11 @@ fn put_byte(b: u8, out: &mut [u8], at: usize) -> usize
     at + 1
 }
 
-// The digits of n over `out` from place `at` on, and the place past them. Those before the last are those of n / 10, so the most significant
-// one is written first. The place is handed on as a value, and a page's methods are inlined: kept in memory, each digit would wait until
-// the one before it had stored it. The tests are two branches, each foreseen by itself; joined by `||` they take a sixth longer. std's text
-// of a number would come in a buffer of its own, to be copied here, and by a rule of its own, to be shown the same as document 01's.
+// The digits of n over `out` from place `at` on, and the place past them. Those before the last are those of n / 10, so the most
+// significant one is written first. The place is handed on as a value, and a page's methods are inlined: were it kept in memory, each digit
+// would wait until the one before it had stored it. The tests are two branches, each foreseen by itself; joined by `||` they take a sixth
+// longer. std's text of a number would come in a buffer of its own, to be copied here, and by a rule of its own, to be shown the same as
+// document 01's.
 fn put_digits(n: u32, k: usize, out: &mut [u8], at: usize) -> usize
     requires { at + k + 1 ≤ length out.old }
     ensures { Put (digits k n) out.old at result out.new }

@@ -8,7 +8,8 @@ use lib.Dec.{eqb, eqb_refl, eqb→eq}
 use lib.Signed.{mag}
 use mir.Syntax.{w64}
 use mir.Val.{SFits, Fits, to_z, of_z}
-use mir.Facts.{to_z-of_z, of_z-to_z}
+use mir.Facts.{to_z-of_z, of_z-to_z, sfits_lit}
+use Rattle.std.specs.Prelude.{nat_eq}
 use Rattle.word.specs.Signed.{eq_z}
 use Rattle.word.proofs.Signed.{zarith, by_test, →eq_z, eq_z→, →eq, eq→, neq_z→, T_true, true_T, not_true}
 use Rattle.summary.specs.Stretch.{step}
@@ -30,6 +31,9 @@ eqb_of_z64 {a} {b} f g = by_test (eq_z a b)
     (λ e. rw e (not_true _
     (λ q. absurd (neq_z→ a b e
     (eq→ a b (sym (to_z-of_z f) ∙ ap (to_z w64) (eqb→eq (of_z w64 a) (of_z w64 b) (true_T q)) ∙ to_z-of_z g))))))
+
+pub none_wanted : (z : ℤ) → SFits w64 z → nat_eq (of_z w64 z) 0 ≡ eq_z z (pos 0)
+none_wanted z f = eqb_of_z64 {b = pos 0} f (sfits_lit tt)
 
 -- ---- an amount after one bit: `r` is what the bit b adds, widened to 64 bits
 wide_step : (b : Bool) → wb (rb (step b)) ≡ step b

@@ -99,6 +99,7 @@ pub fn wide(x: i32) -> i64
     i64::from(x)
 }
 
+#[tactic(auto, using(crate::proofs::Machine::none_wanted))]
 pub fn zero(x: i64) -> bool
     ensures { result ≡ eq_z x (pos 0) }
 {
