@@ -2,14 +2,14 @@
 use mathlib.Core.Path.{◌≡◌, refl, sym, ap, ◌∙◌}
 use mathlib.Core.Bool.{Bool, true, false, cond, not}
 use mathlib.Core.List.{List}
-use Prim.Native.Nat.{ℕ, ◌*◌, ◌/◌, ◌%◌, ◌^◌, ◌≤◌}
+use Prim.Native.Nat.{ℕ, ◌*◌, ◌/◌, ◌^◌, ◌≤◌}
 use native.Mathlib.Nat.{pow-le-pow_right}
 use native.Mathlib.Omega.{arith}
 use lib.IntN.{ℤ, pos}
 use lib.ListN.{length, take, replicate, length-replicate}
 use lib.Seq.{sets, length-sets}
 use Rattle.std.specs.Prelude.{Ok, Err}
-use Rattle.word.specs.Bits.{word, bytes_of}
+use Rattle.word.specs.Bits.{word}
 use Rattle.word.specs.Parse.{is_balanced}
 use Rattle.judge.specs.declared.refusal.Refusal.{Refusal}
 use Rattle.judge.specs.declared.Outcome.{Outcome}
